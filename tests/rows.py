@@ -1,0 +1,82 @@
+#!/usr/bin/env python3
+"""Runs each row of a folder through the built program, and compares what it writes and how it ends.
+
+A row is a folder. `words` has the program's words, one a line. `input` and `output` are what it reads and what it must
+write, byte for byte. In place of either may stand `input.parts` or `output.parts`, for long texts: each line is a number
+and a JSON string, and the text is each string so many times, one after the other. No file: nothing. `status` is the exit
+status; no file: 0. With a file `input_fails` standard input is a folder, so that reading fails; with a file `output_fails`
+standard output is a device that is full, so that writing fails.
+"""
+import contextlib
+import json
+import os
+import subprocess
+import sys
+
+
+def text_of(folder, name):
+    """The bytes that the row's file, or its parts, stand for."""
+    if os.path.isfile(f"{folder}/{name}"):
+        with open(f"{folder}/{name}", "rb") as it:
+            return it.read()
+    made = []
+    if os.path.isfile(f"{folder}/{name}.parts"):
+        with open(f"{folder}/{name}.parts", encoding="utf-8") as it:
+            for line in it.read().splitlines():
+                times, text = line.split(" ", 1)
+                made.append(json.loads(text).encode("utf-8") * int(times))
+    return b"".join(made)
+
+
+def words_of(folder):
+    with open(f"{folder}/words", encoding="utf-8") as it:
+        return it.read().splitlines()
+
+
+def status_of(folder):
+    if not os.path.isfile(f"{folder}/status"):
+        return 0
+    with open(f"{folder}/status", encoding="utf-8") as it:
+        return int(it.read())
+
+
+def fault_of(program, folder):
+    """What differs, or None."""
+    want = text_of(folder, "output")
+    with contextlib.ExitStack() as opened:
+        given = {"input": text_of(folder, "input")}
+        if os.path.isfile(f"{folder}/input_fails"):
+            given = {"stdin": os.open(folder, os.O_RDONLY)}
+            opened.callback(os.close, given["stdin"])
+        out = subprocess.PIPE
+        if os.path.isfile(f"{folder}/output_fails"):
+            out = opened.enter_context(open("/dev/full", "wb"))
+        ran = subprocess.run([program, *words_of(folder)], stdout=out, stderr=subprocess.PIPE, timeout=60, **given)
+    wrote = ran.stdout or b""
+    if ran.returncode != status_of(folder):
+        return f"ended with status {ran.returncode} in place of {status_of(folder)}, and wrote {wrote[:300]!r}"
+    if wrote != want:
+        return f"wrote {wrote[:300]!r} ({len(wrote)} bytes) in place of {want[:300]!r} ({len(want)} bytes)"
+    return None
+
+
+def main(program, folder):
+    names = sorted(it for it in os.listdir(folder) if os.path.isfile(f"{folder}/{it}/words"))
+    failed = 0
+    for name in names:
+        try:
+            fault = fault_of(program, f"{folder}/{name}")
+        except (OSError, ValueError, subprocess.SubprocessError) as why:
+            fault = str(why)
+        if fault:
+            failed += 1
+            print(f"row {name}: {fault}")
+    if not names:
+        failed = 1
+        print(f"no row stands in {folder}")
+    print(f"{len(names) - min(failed, len(names))} rows passed, {failed} failed")
+    return 1 if failed else 0
+
+
+if __name__ == "__main__":
+    sys.exit(main(*sys.argv[1:]))
