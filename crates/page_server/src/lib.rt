@@ -1,2 +1,10 @@
-//! To be written.
+//! The top call: all that the program does, from the words and the bytes of its input to the bytes of its output.
 #![tactic(auto)]
+
+pub mod command;
+pub mod module;
+pub mod refusal;
+
+pub use command::{Ended, top};
+pub use module::page_of;
+pub use refusal::PageFault;

@@ -1,0 +1,108 @@
+//! Why a module has no page, and the line that tells it.
+ghost use Rattle.std.specs.Prelude.{◌≡◌, IfOk, Some, string_bytes};
+ghost use Rattle.page_server.specs.Lines.{line_at, line_whole, line_of};
+
+use std::alloc::{AllocError, Global};
+use thiserror::Error;
+use ur_lexer::LexFault;
+use ur_parser::SmallFault;
+
+/// Why a module has no page, in the order in which it is asked. `at` is a byte of the module.
+#[derive(Debug, Drop, Error)]
+pub enum PageFault {
+    /// The module is longer than 4,194,304 bytes.
+    #[error("the module is longer than 4,194,304 bytes")]
+    FileTooLong,
+    /// The module isn't UTF-8.
+    #[error("the module isn't UTF-8")]
+    NotUtf8,
+    /// Nothing that can be read begins here.
+    #[error("no token begins at byte {at}")]
+    BadChar { at: u32 },
+    /// The module ends in the string that begins here.
+    #[error("the string at byte {at} has no end")]
+    OpenText { at: u32 },
+    /// The module ends in the comment that begins here.
+    #[error("the comment at byte {at} has no end")]
+    OpenComment { at: u32 },
+    /// The integer that begins here has more than 63 bits.
+    #[error("the integer at byte {at} is above 9223372036854775807")]
+    IntTooLarge { at: u32 },
+    /// The module is of a form that isn't built yet.
+    #[error("the module is of a form that isn't built yet")]
+    NotBuilt,
+    /// Memory ran out.
+    #[error("out of memory")]
+    Memory,
+}
+
+impl From<LexFault> for PageFault {
+    ghost use Rattle.std.specs.Prelude.{◌≡◌};
+    ghost use Rattle.page_server.specs.Modules.{lexical};
+
+    ghost from_gives = { λ fault made. made ≡ lexical fault };
+
+    fn from(fault: LexFault) -> PageFault {
+        match fault {
+            LexFault::BadChar { at } => PageFault::BadChar { at },
+            LexFault::OpenText { at } => PageFault::OpenText { at },
+            LexFault::OpenComment { at } => PageFault::OpenComment { at },
+            LexFault::IntTooLarge { at } => PageFault::IntTooLarge { at },
+            LexFault::Memory => PageFault::Memory,
+        }
+    }
+}
+
+impl From<SmallFault> for PageFault {
+    ghost use Rattle.std.specs.Prelude.{◌≡◌};
+    ghost use Rattle.page_server.specs.Modules.{unread};
+
+    ghost from_gives = { λ fault made. made ≡ unread fault };
+
+    fn from(fault: SmallFault) -> PageFault {
+        match fault {
+            SmallFault::NotBuilt => PageFault::NotBuilt,
+            SmallFault::Memory => PageFault::Memory,
+        }
+    }
+}
+
+/// The line of a refusal at a byte of the module.
+fn line_at(alloc: Global, at: u32, name: &str) -> Result<String, AllocError>
+    ensures { IfOk result (λ line. string_bytes line ≡ line_at at name.now) }
+{
+    let mut line = "Main.ur:".to_string(alloc)?;
+    line.push_str(at.to_string(alloc)?.as_str())?;
+    line.push_str(": ")?;
+    line.push_str(name)?;
+    line.push_str("\n")?;
+    Ok(line)
+}
+
+/// The line of a refusal of the whole module.
+fn line_whole(alloc: Global, name: &str) -> Result<String, AllocError>
+    ensures { IfOk result (λ line. string_bytes line ≡ line_whole name.now) }
+{
+    let mut line = "Main.ur: ".to_string(alloc)?;
+    line.push_str(name)?;
+    line.push_str("\n")?;
+    Ok(line)
+}
+
+impl PageFault {
+    /// The line that tells the refusal. Want of memory has none, and answers so.
+    pub fn line(&self, alloc: Global) -> Result<String, AllocError>
+        ensures { IfOk result (λ line. line_of self.now ≡ Some (string_bytes line)) }
+    {
+        match self {
+            PageFault::FileTooLong => line_whole(alloc, "FileTooLong"),
+            PageFault::NotUtf8 => line_whole(alloc, "NotUtf8"),
+            PageFault::BadChar { at } => line_at(alloc, *at, "BadChar"),
+            PageFault::OpenText { at } => line_at(alloc, *at, "OpenText"),
+            PageFault::OpenComment { at } => line_at(alloc, *at, "OpenComment"),
+            PageFault::IntTooLarge { at } => line_at(alloc, *at, "IntTooLarge"),
+            PageFault::NotBuilt => line_whole(alloc, "NotBuilt"),
+            PageFault::Memory => Err(AllocError),
+        }
+    }
+}
