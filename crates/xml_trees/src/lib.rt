@@ -1,2 +1,12 @@
-//! To be written.
+//! Pages as trees: their tags and attributes, how they are built piece by piece, and the grammar of their text.
 #![tactic(auto)]
+
+pub mod attrs;
+pub mod name;
+pub mod page;
+pub mod tag;
+
+pub use attrs::{Attr, Attrs};
+pub use name::Name;
+pub use page::{Page, Piece};
+pub use tag::Tag;
