@@ -21,7 +21,8 @@ abbrev pub bind : Kd → Scope → Scope
 bind k G = record {
   binders = k ∷ G.binders;
   guards = map (λ (g : Cn × Cn). (shift 1 g.0 0, shift 1 g.1 0)) G.guards;
-  basics = G.basics }
+  basics = G.basics;
+}
 
 -- the scope with one more guard
 abbrev pub assume : Cn → Cn → Scope → Scope

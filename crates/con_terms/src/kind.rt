@@ -1,3 +1,8 @@
+ghost use Rattle.std.specs.Prelude.{◌≡◌, ◌<◌, ◌++◌, ◌∷◌, [], Some, length, slice_get, IfOk, OnOk, OnErr};
+ghost use Rattle.con_terms.specs.View.{kind_tree, kinds_tree};
+
+use std::alloc::{AllocError, Global};
+
 /// A kind. Contracts see it as the tree `kind_tree`.
 #[cycle(kind)]
 #[derive(Drop)]
@@ -21,4 +26,67 @@ pub enum Kind {
 #[derive(Drop)]
 pub struct Kinds {
     pub items: Vec<Kind>,
+}
+
+impl Kinds {
+    ghost use Rattle.con_terms.specs.Trees.{kind_list};
+    ghost use Rattle.con_terms.specs.View.{kind_tree, kinds_tree};
+
+    pub fn new(alloc: Global) -> Kinds
+        ensures { kind_list (kinds_tree result) ≡ [] }
+    {
+        Kinds {
+            items: Vec::new(alloc),
+        }
+    }
+
+    pub fn push(&mut self, kind: Kind) -> Result<(), AllocError>
+        ensures grown { OnOk result (kind_list (kinds_tree self.new) ≡ kind_list (kinds_tree self.old) ++ kind_tree kind ∷ []) }
+        ensures kept { OnErr result (kind_list (kinds_tree self.new) ≡ kind_list (kinds_tree self.old)) }
+    {
+        Ok(self.items.push(kind)?)
+    }
+
+    pub fn len(&self) -> usize
+        ensures { result ≡ length (kind_list (kinds_tree self.now)) }
+    {
+        self.items.len()
+    }
+
+    pub fn at(&self, i: usize) -> &Kind
+        requires { i < length (kind_list (kinds_tree self.now)) }
+        ensures { slice_get (kind_list (kinds_tree self.now)) i ≡ Some (kind_tree result.now) }
+    {
+        &self.items[i]
+    }
+}
+
+/// A copy of a kind.
+#[cycle(copy_kind)]
+pub fn copy_kind(alloc: Global, k: &Kind) -> Result<Kind, AllocError>
+    ensures { IfOk result (λ new. kind_tree new ≡ kind_tree k.now) }
+{
+    match k {
+        Kind::Types => Ok(Kind::Types),
+        Kind::Units => Ok(Kind::Units),
+        Kind::Names => Ok(Kind::Names),
+        Kind::Row(k) => Ok(Kind::Row(Box::new(alloc, copy_kind(alloc, k)?)?)),
+        Kind::Arrow(k, l) => {
+            let from = Box::new(alloc, copy_kind(alloc, k)?)?;
+            let to = Box::new(alloc, copy_kind(alloc, l)?)?;
+            Ok(Kind::Arrow(from, to))
+        }
+        Kind::Tuple(ks) => Ok(Kind::Tuple(copy_kinds(alloc, ks)?)),
+    }
+}
+
+#[cycle(copy_kind)]
+fn copy_kinds(alloc: Global, ks: &Kinds) -> Result<Kinds, AllocError>
+    ensures { IfOk result (λ new. kinds_tree new ≡ kinds_tree ks.now) }
+{
+    let mut items = Vec::new(alloc);
+    for i in 0..ks.items.len() {
+        items.push(copy_kind(alloc, &ks.items[i])?)?;
+    }
+    Ok(Kinds { items })
 }

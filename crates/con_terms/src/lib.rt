@@ -7,4 +7,6 @@
 pub mod con;
 pub mod kind;
 pub mod place;
+pub mod rebuild;
+pub mod substitute;
 pub mod symbol;

@@ -1,0 +1,12 @@
+use Rattle.std.proofs.Common.{◌≡◌, sym}
+use Rattle.con_terms.specs.View.{con_tree}
+use Rattle.con_terms.specs.declared.con.Con.TheViews.{roll-Cons}
+use Rattle.con_terms.proofs.Listed.{pushed_listed, same_listed, on_err}
+use Rattle.con_terms.proofs.Lists.{cons_listed}
+use Rattle.con_terms.proofs.con.Cons.push.Goals as goal
+
+pub returns-clause-grown : goal.returns-clause-grown
+returns-clause-grown c = pushed_listed con_tree _ _ _ _ _ (cons_listed c.args.self.now) (cons_listed (roll-Cons (record { items = c.push.new.self }))) c.in_ok-push.ensures.items
+
+pub returns-in_err-push-clause-kept : goal.returns-in_err-push-clause-kept
+returns-in_err-push-clause-kept c = on_err c.from_residual.result _ (same_listed con_tree _ _ _ _ (cons_listed c.args.self.now) (cons_listed (roll-Cons (record { items = c.push.new.self }))) c.in_err-push.ensures.items)
