@@ -1,0 +1,4 @@
+pub mod History
+pub mod World
+pub mod Rule
+pub mod Words
