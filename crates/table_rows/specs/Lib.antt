@@ -1,0 +1,4 @@
+pub mod Wires
+pub mod Shapes
+pub mod View
+pub mod Pieces
