@@ -2,6 +2,7 @@
 #![tactic(auto)]
 
 pub mod attrs;
+pub mod laws;
 pub mod name;
 pub mod page;
 pub mod tag;
