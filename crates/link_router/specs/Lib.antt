@@ -1,0 +1,6 @@
+pub mod Calls
+pub mod Links
+pub mod Reading
+pub mod Routed
+pub mod View
+pub mod Worked

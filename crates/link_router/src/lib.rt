@@ -1,2 +1,11 @@
-//! To be written.
+//! Links: the entries of a site, calls of them, and the texts that name such calls.
 #![tactic(auto)]
+
+pub mod ask;
+pub mod call;
+pub mod laws;
+pub mod routes;
+
+pub use ask::Ask;
+pub use call::Call;
+pub use routes::{Entry, Routes};
