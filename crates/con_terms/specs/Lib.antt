@@ -6,3 +6,4 @@ pub mod Equal
 pub mod Apart
 pub mod Kinded
 pub mod Symbols
+pub mod Same

@@ -1,0 +1,4 @@
+pub mod Steps
+pub mod Contracted
+pub mod Ordered
+pub mod NormalForm
