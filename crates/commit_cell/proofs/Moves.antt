@@ -137,7 +137,7 @@ module _ {S E : Type 0} (number serial : E → ℕ) (stands : S → List E → S
       }
 
   -- a step that makes no word 0 takes the turn, if it was free
-  pub takes_turn : (id slots : ℕ) (m : M) (st : Step (Option S)) (f : ℕ → ℕ) → f 0 ≢ 0 → ((n : ℕ) → n ≢ 0 → f n ≢ 0) → m.0.live ≡ true → is_some m.0.opening ≡ true → Allows Rule slots id m 0 f (took number stands st m)
+  pub takes_turn : (id slots : ℕ) (m : M) (st : Step (Option S)) (f : ℕ → ℕ) → f 0 ≢ 0 → ((n : ℕ) → n ≢ 0 → f n ≢ 0) → m.0.live ≡ true → is_some m.0.opening ≡ true → Allows Rule slots id m 0 f (took number serial stands st m)
   takes_turn id slots m st f from_free from_taken live opened s r wide at _ = dite (ℕ_discrete (get_or s.words 0 0) 0)
       (λ is.
       let home = r.at_home is in

@@ -51,9 +51,8 @@ module _ {E : Type 0} (number serial : E → ℕ) where
           seen = k.seen;
           own_seen = k.own_seen;
           owns = k.owns;
-          serials = k.serials;
           was_given = omega arith;
-          were_given = λ j d lt. let h = k.were_given j d lt in let small' = h.0 in (omega arith, h.1);
+          were_given = λ j d lt. let small' = k.were_given j d lt in omega arith;
         })
         (λ (t : newcomer w.given seen ≡ p). subst (Knows number serial w.history (w.given + 1)) t new)
         (who i p e);
@@ -62,7 +61,7 @@ module _ {E : Type 0} (number serial : E → ℕ) where
   }
     where
       fresh : tally w.given w.passes ≡ 0
-      fresh = tally_new w.given w.passes (λ i p e. let k = f.each i p e in (k.was_given, λ j d lt. (k.were_given j d lt).0))
+      fresh = tally_new w.given w.passes (λ i p e. let k = f.each i p e in (k.was_given, k.were_given))
 
       once : (n : ℕ) → tally n ps ≤ 1
       once n = let c = count n in dite (ℕ_discrete n w.given)
@@ -77,8 +76,7 @@ module _ {E : Type 0} (number serial : E → ℕ) where
       new = record {
         seen = starts;
         own_seen = of_number-none number w.given w.history seen starts (f.unused w.given (omega arith));
-        owns = record { own = f.unused w.given (omega arith); gathered = λ j d lt. absurd (omega arith) };
-        serials = tt;
+        owns = record { own = f.unused w.given (omega arith); serials = tt; gathered = λ j d lt. absurd (omega arith) };
         was_given = omega arith;
         were_given = λ j d lt. absurd (omega arith);
       }
@@ -88,7 +86,7 @@ module _ {E : Type 0} (number serial : E → ℕ) where
   keeps_look w i p f here =
       let k = f.each i p here in record {
         each = after_set (λ _ q. Knows number serial w.history w.given q) w.passes i (looked p w.history)
-            record { seen = starts_self w.history; own_seen = k.owns.own; owns = record { own = k.owns.own; gathered = k.owns.gathered }; serials = k.serials; was_given = k.was_given; were_given = k.were_given }
+            record { seen = starts_self w.history; own_seen = k.owns.own; owns = record { own = k.owns.own; serials = k.owns.serials; gathered = k.owns.gathered }; was_given = k.was_given; were_given = k.were_given }
             (λ j q ne there. f.each j q there);
         differ = λ n. let h = f.differ n in let t = tally-set n w.passes i (Some p) (Some (looked p w.history)) here in
             let s : times n (numbers_of (Some (looked p w.history))) ≡ times n (numbers_of (Some p)) = refl in omega arith;
@@ -108,16 +106,14 @@ module _ {E : Type 0} (number serial : E → ℕ) where
             record {
               seen = starts_self log;
               own_seen = more;
-              owns = record { own = more; gathered = λ j d lt. same _ (inner j d lt) ∙ k.owns.gathered j d lt };
-              serials = counts-append serial p.mine e 0 k.serials (omega arith);
+              owns = record { own = more; serials = counts-append serial p.mine e 0 k.owns.serials (omega arith); gathered = λ j d lt. let g = k.owns.gathered j d lt in (same _ (inner j d lt) ∙ g.0, g.1) };
               was_given = k.was_given;
               were_given = k.were_given;
             }
             (λ j q ne there. let h = f.each j q there in let away = apart w.passes i j p q f.differ here there ne in record {
               seen = starts_later w.history q.seen (e ∷ []) h.seen;
               own_seen = h.own_seen;
-              owns = record { own = same q.number away.0 ∙ h.owns.own; gathered = λ m d lt. same _ (away.1 m d lt) ∙ h.owns.gathered m d lt };
-              serials = h.serials;
+              owns = record { own = same q.number away.0 ∙ h.owns.own; serials = h.owns.serials; gathered = λ m d lt. let g = h.owns.gathered m d lt in (same _ (away.1 m d lt) ∙ g.0, g.1) };
               was_given = h.was_given;
               were_given = h.were_given;
             });
@@ -141,10 +137,9 @@ module _ {E : Type 0} (number serial : E → ℕ) where
             record {
               seen = starts;
               own_seen = own;
-              owns = record { own = k.owns.own; gathered = with_gathered (λ g. of_number number g.0 w.history ≡ g.1) k.owns.gathered h.owns.own h.owns.gathered };
-              serials = k.serials;
+              owns = record { own = k.owns.own; serials = k.owns.serials; gathered = with_gathered (λ g. (of_number number g.0 w.history ≡ g.1) × CountsFrom serial 0 g.1) k.owns.gathered (h.owns.own, h.owns.serials) h.owns.gathered };
               was_given = k.was_given;
-              were_given = with_gathered (λ g. (g.0 < w.given) × CountsFrom serial 0 g.1) k.were_given (h.was_given, h.serials) h.were_given;
+              were_given = with_gathered (λ g. g.0 < w.given) k.were_given h.was_given h.were_given;
             }
             (λ x r' _ at'. f.each x r' at')
             m r there');
@@ -189,7 +184,7 @@ module _ {E : Type 0} (number serial : E → ℕ) where
   }
     where
       first : Knows number serial [] 1 (newcomer 0 [])
-      first = record { seen = ([], refl); own_seen = refl; owns = record { own = refl; gathered = λ j d lt. absurd (omega arith) }; serials = tt; was_given = omega arith; were_given = λ j d lt. absurd (omega arith) }
+      first = record { seen = ([], refl); own_seen = refl; owns = record { own = refl; serials = tt; gathered = λ j d lt. absurd (omega arith) }; was_given = omega arith; were_given = λ j d lt. absurd (omega arith) }
 
       each : (i : ℕ) (p : Known E) → HasPass first_world i p → Knows number serial [] 1 p
       each zero p e = let is : Some (newcomer 0 []) ≡ Some p = some-injective _ _ e in let same : newcomer 0 [] ≡ p = cc in subst (Knows number serial [] 1) same first

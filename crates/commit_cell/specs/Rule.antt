@@ -86,12 +86,12 @@ module _ {S E : Type 0} where
     pub taken : slice_index s.words 0 ≢ 0 → Turned log s.views
 
   -- the seat has the turn, and the value that stands for the whole history
-  abbrev pub HasValue : (E → ℕ) → (S → List E → S → Type 0) → Me (Option S) (View S E) → Me (Option S) (View S E) → Type 0
-  HasValue number stands m n = (x : S) × (log : List E) × (n ≡ (acting m.0 log, (0, Some x) ∷ m.1)) × StartsWith log m.0.known.seen × from stands m.0.opening log x × Owns number log m.0.known
+  abbrev pub HasValue : (E → ℕ) → (E → ℕ) → (S → List E → S → Type 0) → Me (Option S) (View S E) → Me (Option S) (View S E) → Type 0
+  HasValue number serial stands m n = (x : S) × (log : List E) × (n ≡ (acting m.0 log, (0, Some x) ∷ m.1)) × StartsWith log m.0.known.seen × from stands m.0.opening log x × Owns number serial log m.0.known
 
   -- the turn was free and is taken, or was not free, and nothing changes
-  abbrev pub took : (E → ℕ) → (S → List E → S → Type 0) → Step (Option S) → Me (Option S) (View S E) → ℕ → Me (Option S) (View S E) → Type 0
-  took number stands st m r n = (r ≡ 0 → HasValue number stands m n) × (r ≢ 0 → n ≡ m)
+  abbrev pub took : (E → ℕ) → (E → ℕ) → (S → List E → S → Type 0) → Step (Option S) → Me (Option S) (View S E) → ℕ → Me (Option S) (View S E) → Type 0
+  took number serial stands st m r n = (r ≡ 0 → HasValue number serial stands m n) × (r ≢ 0 → n ≡ m)
 
   abbrev pub gave : Option E → Step (Option S) → Me (Option S) (View S E) → ℕ → Me (Option S) (View S E) → Type 0
   gave given st m r n = n ≡ (given_back m.0 given, [])

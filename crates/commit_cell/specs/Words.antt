@@ -82,14 +82,14 @@ module _ {S E : Type 0} {G : Ghosts S E} where
   MayGive number_of serial_of p e = IsNextOf number_of serial_of (known p) e
 
   -- The pass takes the turn: it is as before but for what it has seen, which now is the whole history, and the value stands for that
-  pub record TakesTurn (number_of : E → ℕ) (stands : S → List E → S → Type 0) (c : Cell S E) (p q : Pass S E G) (t : Turn S E) : Type 0 where
+  pub record TakesTurn (number_of serial_of : E → ℕ) (stands : S → List E → S → Type 0) (c : Cell S E) (p q : Pass S E G) (t : Turn S E) : Type 0 where
     pub is_of : IsOf c q
     pub has_turn : HasTurn q
     pub is_turn : IsTurnOf t q
     pub known_is : known q ≡ looked (known p) (seen q)
     pub opening_is : opening q ≡ opening p
     pub begins : StartsWith (seen q) (seen p)
-    pub whole : Owns number_of (seen q) (known q)
+    pub whole : Owns number_of serial_of (seen q) (known q)
     pub stands_for : StandsFor stands q (seen q) (value_of t)
 
   -- the pass is free and knows what it knew
@@ -97,8 +97,8 @@ module _ {S E : Type 0} {G : Ghosts S E} where
   StaysFree c p q = IsFreeOf c q × (known q ≡ known p) × (opening q ≡ opening p)
 
   -- The value stands for a history that goes on from what the pass had seen, in which the pass's entries are its own and those of each gathered number the list gathered with it
-  pub record Closes (number_of : E → ℕ) (stands : S → List E → S → Type 0) (p : Pass S E G) (x : S) : Type 0 where
+  pub record Closes (number_of serial_of : E → ℕ) (stands : S → List E → S → Type 0) (p : Pass S E G) (x : S) : Type 0 where
     pub log : List E
     pub begins : StartsWith log (seen p)
     pub stands_for : StandsFor stands p log x
-    pub owns : Owns number_of log (known p)
+    pub owns : Owns number_of serial_of log (known p)

@@ -51,13 +51,13 @@ module _ {E : Type 0} where
   abbrev pub first_world : World E
   first_world = record { history = []; given = 1; passes = Some (newcomer 0 []) ∷ [] }
 
-module _ {E : Type 0} (number : E → ℕ) where
-  -- the history's entries with this pass's number are its own, and those with a gathered number the list gathered with it
+module _ {E : Type 0} (number serial : E → ℕ) where
+  -- The history's entries with this pass's number are its own, and those with a gathered number the list gathered with it. The serials of each are 0, 1, and so on
   pub record Owns (log : List E) (p : Known E) : Type 0 where
     pub own : of_number number p.number log ≡ p.mine
-    pub gathered : All (λ (g : ℕ × List E). of_number number g.0 log ≡ g.1) p.gathered
+    pub serials : CountsFrom serial 0 p.mine
+    pub gathered : All (λ (g : ℕ × List E). (of_number number g.0 log ≡ g.1) × CountsFrom serial 0 g.1) p.gathered
 
-module _ {E : Type 0} (number serial : E → ℕ) where
   -- the event leads from the one world to the other
   abbrev pub Happens : World E → Event E → World E → Type 0
   Happens w (splits i) w' = (p : Known E) × HasPass w i p
@@ -78,10 +78,9 @@ module _ {E : Type 0} (number serial : E → ℕ) where
   pub record Knows (history : List E) (given : ℕ) (p : Known E) : Type 0 where
     pub seen : StartsWith history p.seen
     pub own_seen : of_number number p.number p.seen ≡ p.mine
-    pub owns : Owns number history p
-    pub serials : CountsFrom serial 0 p.mine
+    pub owns : Owns history p
     pub was_given : p.number < given
-    pub were_given : All (λ (g : ℕ × List E). (g.0 < given) × CountsFrom serial 0 g.1) p.gathered
+    pub were_given : All (λ (g : ℕ × List E). g.0 < given) p.gathered
 
   -- The facts of a world: those of its passes, that no number stands twice, and that a number which was not given yet has no entry
   pub record Facts (w : World E) : Type 0 where

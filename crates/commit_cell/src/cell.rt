@@ -115,7 +115,7 @@ impl<S: Replays> Cell<S> {
     /// Waits for the turn, and takes it with the value.
     pub fn take<R: Wait>(&self, rt: &R, pass: &mut Pass<S>) -> Turn<S>
         requires { IsFreeOf self.now pass.old }
-        ensures { TakesTurn S.number S.stands self.now pass.old pass.new result }
+        ensures { TakesTurn S.number S.serial S.stands self.now pass.old pass.new result }
     {
         for _ in rt.forever() {
             if let Some(turn) = self.look(pass) {
@@ -157,7 +157,7 @@ impl<S: Replays> Cell<S> {
     /// Waits for the turn, and takes the value out of the cell.
     pub fn close<R: Wait>(self, rt: &R, mut pass: Pass<S>) -> S
         requires { IsFreeOf self pass }
-        ensures { Closes S.number S.stands pass result }
+        ensures { Closes S.number S.serial S.stands pass result }
     {
         let Turn { value, taken: _ } = self.take(rt, &mut pass);
         value
@@ -166,7 +166,7 @@ impl<S: Replays> Cell<S> {
     // Looks for a while whether the turn is free, and takes it if it is.
     fn look(&self, pass: &mut Pass<S>) -> Option<Turn<S>>
         requires { IsFreeOf self.now pass.old }
-        ensures some { IfSome result (λ t. TakesTurn S.number S.stands self.now pass.old pass.new t) }
+        ensures some { IfSome result (λ t. TakesTurn S.number S.serial S.stands self.now pass.old pass.new t) }
         ensures none { IfNone result (StaysFree self.now pass.old pass.new) }
     {
         for _ in 0..LOOKS {
@@ -181,7 +181,7 @@ impl<S: Replays> Cell<S> {
     // Takes the turn with the value, if it is free.
     fn try_take(&self, pass: &mut Pass<S>, asker: Asker) -> Option<Turn<S>>
         requires { IsFreeOf self.now pass.old }
-        ensures some { IfSome result (λ t. TakesTurn S.number S.stands self.now pass.old pass.new t) }
+        ensures some { IfSome result (λ t. TakesTurn S.number S.serial S.stands self.now pass.old pass.new t) }
         ensures none { IfNone result (StaysFree self.now pass.old pass.new) }
     {
         if self.ask(&mut pass.seat, asker) != 0 {
@@ -197,7 +197,7 @@ impl<S: Replays> Cell<S> {
         requires place { seat.old.table_id ≡ self.now.table.shared.table_id }
         requires pass { (seat.old.me.0.live ≡ true) × (is_some seat.old.me.0.opening ≡ true) }
         ensures place { seat.new.table_id ≡ seat.old.table_id }
-        ensures free { result ≡ 0 → HasValue S.number S.stands seat.old.me seat.new.me }
+        ensures free { result ≡ 0 → HasValue S.number S.serial S.stands seat.old.me seat.new.me }
         ensures taken { result ≢ 0 → seat.new.me ≡ seat.old.me }
     {
         let shared = &self.table.shared;

@@ -37,7 +37,7 @@ pub struct Take<S> {
 impl<S: Replays> Play<Option<S>, View<S, S::Entry>> for Take<S> {
     ghost use Rattle.commit_cell.specs.Rule.{took};
 
-    ghost then = { took S.number S.stands };
+    ghost then = { took S.number S.serial S.stands };
 }
 
 /// Gives the turn back, with an entry or without.

@@ -25,7 +25,8 @@ impl<S: Replays> Turn<S> {
 
     /// The value, to be changed.
     pub fn value_mut(&mut self) -> &mut S
-        ensures* { sem 𝓛 (Lends (the_row S.row S.Entry.row) S.row self.entry result (with_value self.entry.now)) }
+        ensures* written { sem 𝓛 (Lends (the_row S.row S.Entry.row) S.row self.entry result (with_value self.entry.now)) }
+        ensures value { result.now ≡ value_of self.old }
     {
         &mut self.value
     }
