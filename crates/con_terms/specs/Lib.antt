@@ -7,3 +7,4 @@ pub mod Apart
 pub mod Kinded
 pub mod Symbols
 pub mod Same
+pub mod Laws

@@ -1,4 +1,5 @@
-ghost use Rattle.std.specs.Prelude.{◌≡◌, ◌<◌, ◌++◌, ◌∷◌, [], Some, length, slice_get, IfOk, OnOk, OnErr};
+ghost use Rattle.std.specs.Prelude.{◌≡◌, ◌<◌, ◌++◌, ◌∷◌, [], Some, length, slice_get, IsTrue, ◌↔◌, IfOk, OnOk, OnErr};
+ghost use Rattle.con_terms.specs.Same.{kd_eq, kds_eq};
 ghost use Rattle.con_terms.specs.View.{kind_tree, kinds_tree};
 
 use std::alloc::{AllocError, Global};
@@ -89,4 +90,50 @@ fn copy_kinds(alloc: Global, ks: &Kinds) -> Result<Kinds, AllocError>
         items.push(copy_kind(alloc, &ks.items[i])?)?;
     }
     Ok(Kinds { items })
+}
+
+/// Whether two kinds are one.
+pub fn same_kind(a: &Kind, b: &Kind) -> bool
+    ensures computed { result ≡ kd_eq (kind_tree a.now) (kind_tree b.now) }
+    ensures exact { IsTrue result ↔ (kind_tree a.now ≡ kind_tree b.now) }
+{
+    equal(a, b)
+}
+
+#[cycle(equal)]
+fn equal(a: &Kind, b: &Kind) -> bool
+    ensures { result ≡ kd_eq (kind_tree a.now) (kind_tree b.now) }
+{
+    match a {
+        Kind::Types => matches!(b, Kind::Types),
+        Kind::Units => matches!(b, Kind::Units),
+        Kind::Names => matches!(b, Kind::Names),
+        Kind::Row(k) => match b {
+            Kind::Row(l) => equal(k, l),
+            _ => false,
+        },
+        Kind::Arrow(k, l) => match b {
+            Kind::Arrow(m, n) => equal(k, m) && equal(l, n),
+            _ => false,
+        },
+        Kind::Tuple(ks) => match b {
+            Kind::Tuple(ls) => equal_each(ks, ls),
+            _ => false,
+        },
+    }
+}
+
+#[cycle(equal)]
+fn equal_each(ks: &Kinds, ls: &Kinds) -> bool
+    ensures { result ≡ kds_eq (kinds_tree ks.now) (kinds_tree ls.now) }
+{
+    if ks.items.len() != ls.items.len() {
+        return false;
+    }
+    for i in 0..ks.items.len() {
+        if !equal(&ks.items[i], &ls.items[i]) {
+            return false;
+        }
+    }
+    true
 }

@@ -6,7 +6,10 @@
 
 pub mod con;
 pub mod kind;
+pub mod laws;
 pub mod place;
 pub mod rebuild;
 pub mod substitute;
 pub mod symbol;
+#[cfg(test)]
+mod tests;
