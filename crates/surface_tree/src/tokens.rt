@@ -59,6 +59,13 @@ impl Tokens {
         &self.all[place]
     }
 
+    /// The tokens as a slice.
+    pub fn as_slice(&self) -> &[Token]
+        ensures { result.now ≡ self.now.items }
+    {
+        self.all.as_slice()
+    }
+
     /// The length of the text in bytes.
     pub fn end(&self) -> u32
         ensures { result ≡ self.now.end }
