@@ -1,0 +1,8 @@
+pub mod Fronts
+pub mod TagNames
+pub mod Building
+pub mod Frames
+pub mod Moves
+pub mod Steps
+pub mod Bodies
+pub mod Modules

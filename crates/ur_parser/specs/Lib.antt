@@ -1,0 +1,4 @@
+pub mod Words
+pub mod Small
+pub mod Pages
+pub mod Reading
