@@ -1,2 +1,22 @@
-//! To be written.
+//! The explicit language: terms in which nothing is left to infer, what types they have, and what
+//! they mean.
+//!
+//! The definitions stand in `specs/`; each file is one subject.
 #![tactic(auto)]
+
+pub mod basis;
+pub mod decl;
+pub mod exp;
+pub mod markup;
+pub mod pat;
+pub mod program;
+
+pub use basis::BasisName;
+pub use decl::{Constructor, Constructors, Datatype, Decl, Decls};
+pub use exp::{
+    Attribute, Attributes, Branch, Branches, Element, Exp, Exps, Field, Fields, Form, Item, Items,
+    Local, Locals, Named, NamedList,
+};
+pub use markup::{AttrName, TagName};
+pub use pat::{Pat, PatField, PatFields, PatForm, Pats};
+pub use program::{Folders, Foreigns, Program, Rules};

@@ -1,0 +1,120 @@
+-- What is left of a term when what was inserted is dropped: its source, with names resolved.
+-- Dropped are inserted constructors, guards, folders and instances at calls; and types, kinds, rows and contexts that weren't written become ().
+use Rattle.std.specs.Prelude.{ℕ, Bool, true, false, List, map, Option}
+use Rattle.con_terms.specs.Trees.{Kd, types, Cn, unit_con}
+use Rattle.con_terms.specs.declared.place.Place.{Place}
+use Rattle.core_terms.specs.Trees.{Pt, pattern, Pf, any, binds, is_number, is_text, is_bare, is_holding, has_fields, annotated, Pfs, no_pat_fields, pat_field, Ex, node, Fo, bound, top, foreign, basis, fold_over, number, text, built, fn, fn_con, fn_guard, call, let_in, case_of, fields_of, select, concat, without, without_row, folder, element, Its, no_items, with_term, with_con, with_guard, Nms, no_named, named, Los, no_locals, local_val, local_rec, Brs, no_branches, branch, Fds, no_fields, field, El, tagged, Ats, no_attributes, attribute, Xs, no_nodes, a_node, De, val, vals, con_is, datatype}
+
+-- a type where it was written
+abbrev pub if_written : Bool → Cn → Cn
+if_written true t = t
+if_written false t = unit_con
+
+-- a kind where it was written
+abbrev pub kind_if_written : Bool → Kd → Kd
+kind_if_written true k = k
+kind_if_written false k = types
+
+abbrev mutual
+  pub strip_pattern : Pt → Pt
+  strip_pattern (pattern p f) = pattern p (strip_pattern_form f)
+
+  pub strip_pattern_form : Pf → Pf
+  strip_pattern_form any = any
+  strip_pattern_form (binds x w t) = binds x w (if_written w t)
+  strip_pattern_form (is_number z) = is_number z
+  strip_pattern_form (is_text t) = is_text t
+  strip_pattern_form (is_bare s j) = is_bare s j
+  strip_pattern_form (is_holding s j p) = is_holding s j (strip_pattern p)
+  strip_pattern_form (has_fields fs more) = has_fields (strip_pattern_fields fs) more
+  strip_pattern_form (annotated p t) = annotated (strip_pattern p) t
+
+  pub strip_pattern_fields : Pfs → Pfs
+  strip_pattern_fields no_pat_fields = no_pat_fields
+  strip_pattern_fields (pat_field p n q fs) = pat_field p n (strip_pattern q) (strip_pattern_fields fs)
+
+-- an item that was written, before the others
+abbrev pub keep_con : Place → Bool → Cn → Its → Its
+keep_con p true c is = is
+keep_con p false c is = with_con p false c is
+
+abbrev pub keep_guard : Place → Bool → Its → Its
+keep_guard p true is = is
+keep_guard p false is = with_guard p false is
+
+-- a term that was written, before the other items
+abbrev pub keep_term : Bool → Ex → Its → Its
+keep_term true e is = is
+keep_term false e is = with_term e is
+
+-- whether a term was inserted
+abbrev pub was_added : Ex → Bool
+was_added (node p a f) = a
+
+abbrev mutual
+  pub strip : Ex → Ex
+  strip (node p a f) = node p a (strip_form f)
+
+  pub strip_form : Fo → Fo
+  strip_form (bound i) = bound i
+  strip_form (top i) = top i
+  strip_form (foreign i) = foreign i
+  strip_form (basis b) = basis b
+  strip_form (fold_over k) = fold_over types
+  strip_form (number z) = number z
+  strip_form (text t) = text t
+  strip_form (built s j) = built s j
+  strip_form (fn p w t e) = fn (strip_pattern p) w (if_written w t) (strip e)
+  strip_form (fn_con x i w k e) = fn_con x i w (kind_if_written w k) (strip e)
+  strip_form (fn_guard c d e) = fn_guard c d (strip e)
+  strip_form (call f is) = call (strip f) (strip_items is)
+  strip_form (let_in ls e) = let_in (strip_locals ls) (strip e)
+  strip_form (case_of e p q b bs) = case_of (strip e) p (strip_pattern q) (strip b) (strip_branches bs)
+  strip_form (fields_of fs) = fields_of (strip_fields fs)
+  strip_form (select e c) = select (strip e) c
+  strip_form (concat e d) = concat (strip e) (strip d)
+  strip_form (without e c) = without (strip e) c
+  strip_form (without_row e c) = without_row (strip e) c
+  strip_form (folder k ps) = folder k ps
+  strip_form (element m) = element (strip_element m)
+
+  pub strip_items : Its → Its
+  strip_items no_items = no_items
+  strip_items (with_term e is) = keep_term (was_added e) (strip e) (strip_items is)
+  strip_items (with_con p a c is) = keep_con p a c (strip_items is)
+  strip_items (with_guard p a is) = keep_guard p a (strip_items is)
+
+  pub strip_named : Nms → Nms
+  strip_named no_named = no_named
+  strip_named (named p x w t e ns) = named p x w (if_written w t) (strip e) (strip_named ns)
+
+  pub strip_locals : Los → Los
+  strip_locals no_locals = no_locals
+  strip_locals (local_val p x w t e ls) = local_val p x w (if_written w t) (strip e) (strip_locals ls)
+  strip_locals (local_rec ns ls) = local_rec (strip_named ns) (strip_locals ls)
+
+  pub strip_branches : Brs → Brs
+  strip_branches no_branches = no_branches
+  strip_branches (branch p q e bs) = branch p (strip_pattern q) (strip e) (strip_branches bs)
+
+  pub strip_fields : Fds → Fds
+  strip_fields no_fields = no_fields
+  strip_fields (field p n e fs) = field p n (strip e) (strip_fields fs)
+
+  pub strip_element : El → El
+  strip_element (tagged g n c u as' xs) = tagged g n unit_con unit_con (strip_attributes as') (strip_nodes xs)
+
+  pub strip_attributes : Ats → Ats
+  strip_attributes no_attributes = no_attributes
+  strip_attributes (attribute p n e as') = attribute p n (strip e) (strip_attributes as')
+
+  pub strip_nodes : Xs → Xs
+  strip_nodes no_nodes = no_nodes
+  strip_nodes (a_node e xs) = a_node (strip e) (strip_nodes xs)
+
+-- a declaration; a con declaration's kind counts as the types of values do
+abbrev pub strip_decl : De → De
+strip_decl (val p x w t e) = val p x w (if_written w t) (strip e)
+strip_decl (vals ns) = vals (strip_named ns)
+strip_decl (con_is p x w k c) = con_is p x w (kind_if_written w k) c
+strip_decl (datatype d) = datatype d

@@ -1,0 +1,158 @@
+-- Terms, patterns and declarations as finite trees, with their places.
+-- The Ur/Web Manual, "Core Language".
+use Rattle.std.specs.Prelude.{ℕ, ℤ, Bool, List, [], ◌∷◌, Option}
+use Rattle.con_terms.specs.Trees.{Kd, Cn, Prs}
+use Rattle.con_terms.specs.declared.place.Place.{Place}
+use Rattle.core_terms.specs.declared.basis.BasisName.{BasisName}
+use Rattle.core_terms.specs.declared.markup.TagName.{TagName}
+use Rattle.core_terms.specs.declared.markup.AttrName.{AttrName}
+
+mutual
+  -- patterns
+  pub data Pt : Type 0 where
+    pattern : Place → Pf → Pt
+
+  pub data Pf : Type 0 where
+    -- _
+    any : Pf
+    -- a variable: its name, whether its type was written, and its type
+    binds : ℕ → Bool → Cn → Pf
+    is_number : ℤ → Pf
+    is_text : List ℕ → Pf
+    -- a constructor: its datatype's symbol and its place in it, alone or with a pattern of what it holds
+    is_bare : ℕ → ℕ → Pf
+    is_holding : ℕ → ℕ → Pt → Pf
+    -- fields, and whether further ones may stand beside them
+    has_fields : Pfs → Bool → Pf
+    -- (p : t)
+    annotated : Pt → Cn → Pf
+
+  pub data Pfs : Type 0 where
+    no_pat_fields : Pfs
+    pat_field : Place → Cn → Pt → Pfs → Pfs
+
+mutual
+  -- terms: a place, whether the term was inserted, and its form
+  pub data Ex : Type 0 where
+    node : Place → Bool → Fo → Ex
+
+  pub data Fo : Type 0 where
+    -- what the binder that is so many binders further out binds
+    bound : ℕ → Fo
+    -- the top-level value, the foreign effect with this number
+    top : ℕ → Fo
+    foreign : ℕ → Fo
+    -- a value of the basis; fold over rows of a kind
+    basis : BasisName → Fo
+    fold_over : Kd → Fo
+    number : ℤ → Fo
+    text : List ℕ → Fo
+    -- a constructor of a datatype: the datatype's symbol, and the constructor's place in it
+    built : ℕ → ℕ → Fo
+    -- fn p : t => e, with a flag that tells whether t was written
+    fn : Pt → Bool → Cn → Ex → Fo
+    -- fn [x :: k] => e: the name, whether it is :::, whether k was written, and k
+    fn_con : ℕ → Bool → Bool → Kd → Ex → Fo
+    -- fn [c ~ d] => e
+    fn_guard : Cn → Cn → Ex → Fo
+    -- a term with what it is applied to
+    call : Ex → Its → Fo
+    let_in : Los → Ex → Fo
+    -- case e of p => e | ..; the first branch stands apart from the rest
+    case_of : Ex → Place → Pt → Ex → Brs → Fo
+    -- {c = e, ..}
+    fields_of : Fds → Fo
+    -- e.c
+    select : Ex → Cn → Fo
+    -- e1 ++ e2
+    concat : Ex → Ex → Fo
+    -- e -- c
+    without : Ex → Cn → Fo
+    -- e --- c
+    without_row : Ex → Cn → Fo
+    -- the folder of a row whose values have this kind
+    folder : Kd → Prs → Fo
+    element : El → Fo
+
+  -- what a term is applied to, from left to right: terms; constructors, and guards' proofs, each with whether it was inserted
+  pub data Its : Type 0 where
+    no_items : Its
+    with_term : Ex → Its → Its
+    with_con : Place → Bool → Cn → Its → Its
+    with_guard : Place → Bool → Its → Its
+
+  -- names with their terms: the place, the name, whether the type was written, and the type
+  pub data Nms : Type 0 where
+    no_named : Nms
+    named : Place → ℕ → Bool → Cn → Ex → Nms → Nms
+
+  -- the declarations of a let: one name, or names that may be used in each other's terms
+  pub data Los : Type 0 where
+    no_locals : Los
+    local_val : Place → ℕ → Bool → Cn → Ex → Los → Los
+    local_rec : Nms → Los → Los
+
+  pub data Brs : Type 0 where
+    no_branches : Brs
+    branch : Place → Pt → Ex → Brs → Brs
+
+  pub data Fds : Type 0 where
+    no_fields : Fds
+    field : Place → Cn → Ex → Fds → Fds
+
+  -- an element: its tag, the field that an input fills, the row of where it stands, the fields filled before it, its attributes, and the nodes in it
+  pub data El : Type 0 where
+    tagged : TagName → Option Cn → Cn → Cn → Ats → Xs → El
+
+  pub data Ats : Type 0 where
+    no_attributes : Ats
+    attribute : Place → AttrName → Ex → Ats → Ats
+
+  pub data Xs : Type 0 where
+    no_nodes : Xs
+    a_node : Ex → Xs → Xs
+
+-- one item, and one declaration of a let
+pub data It : Type 0 where
+  a_term : Ex → It
+  a_con : Place → Bool → Cn → It
+  a_guard : Place → Bool → It
+
+pub data Lo : Type 0 where
+  a_val : Place → ℕ → Bool → Cn → Ex → Lo
+  a_rec : Nms → Lo
+
+-- a constructor of a datatype: its name, and what it holds, seen from under the datatype's parameters
+pub record Cd : Type 0 where
+  pub place : Place
+  pub name : ℕ
+  pub holds : Option Cn
+
+-- a datatype: its type's symbol, how many types it takes, and its constructors
+pub record Dt : Type 0 where
+  pub place : Place
+  pub symbol : ℕ
+  pub parameters : ℕ
+  pub constructors : List Cd
+
+-- declarations
+pub data De : Type 0 where
+  val : Place → ℕ → Bool → Cn → Ex → De
+  vals : Nms → De
+  con_is : Place → ℕ → Bool → Kd → Cn → De
+  datatype : Dt → De
+
+-- a rule on addresses
+pub record Ru : Type 0 where
+  pub allow : Bool
+  pub pattern : List ℕ
+
+-- a program: the texts of its symbols, the modules' names, its declarations, the rules on addresses, the foreign effects by module and name, the symbol of folder at each kind, and the values that a request may name
+pub record Pg : Type 0 where
+  pub names : List (List ℕ)
+  pub modules : List (List ℕ)
+  pub decls : List De
+  pub rules : List Ru
+  pub foreigns : List (List ℕ × List ℕ)
+  pub folders : List (Kd × ℕ)
+  pub exports : List ℕ

@@ -1,0 +1,38 @@
+//! The names of the values that every program has.
+
+/// A value of the basis. Its type stands in `specs/Basis.antt`.
+#[derive(Clone, Copy, Debug, PartialEq, Eq)]
+pub enum BasisName {
+    Return,
+    Bind,
+    Error,
+    Not,
+    Strcat,
+    Plus,
+    Minus,
+    Times,
+    Divide,
+    Mod,
+    Neg,
+    Eq,
+    Ne,
+    Lt,
+    Le,
+    Show,
+    MkShow,
+    MkEq,
+    Txt,
+    Cdata,
+    Join,
+    Bless,
+    NumInt,
+    ShowInt,
+    ShowString,
+    ShowBool,
+    EqInt,
+    EqString,
+    EqBool,
+    OrdInt,
+    OrdString,
+    OrdBool,
+}

@@ -1,0 +1,187 @@
+//! Terms.
+use crate::basis::BasisName;
+use crate::markup::{AttrName, TagName};
+use crate::pat::Pat;
+use con_terms::con::{Con, Pairs};
+use con_terms::kind::Kind;
+use con_terms::place::Place;
+use con_terms::symbol::Sym;
+use table_rows::Text;
+
+/// A term. Contracts see it as the tree `exp_tree`.
+#[cycle(exp)]
+#[derive(Drop)]
+pub struct Exp {
+    pub place: Place,
+    /// Whether it was inserted, so that the source doesn't have it.
+    pub added: bool,
+    pub form: Form,
+}
+
+/// What a term is. A flag beside a type or a kind says whether the source has it.
+#[cycle(exp)]
+#[derive(Drop)]
+pub enum Form {
+    /// What the binder that is so many binders further out binds.
+    Var(u32),
+    /// The top-level value with this number.
+    Top(u32),
+    /// The foreign effect with this number.
+    Foreign(u32),
+    /// A value of the basis.
+    Basis(BasisName),
+    /// `fold`, over rows of this kind.
+    Fold(Kind),
+    Int(i64),
+    Words(Text),
+    /// A constructor of a datatype: the datatype's symbol, and the constructor's place in it.
+    Build(Sym, u32),
+    /// `fn p : t => e`
+    Fn(Pat, bool, Con, Box<Exp>),
+    /// `fn [x :: k] => e`, or `fn [x ::: k] => e` where the first flag is true
+    FnCon(Sym, bool, bool, Kind, Box<Exp>),
+    /// `fn [c ~ d] => e`
+    FnGuard(Con, Con, Box<Exp>),
+    /// A term with what it is applied to.
+    Call(Box<Exp>, Items),
+    /// `let .. in e end`
+    Let(Locals, Box<Exp>),
+    /// `case e of p => e | ..`
+    Case(Box<Exp>, Box<Branch>, Branches),
+    /// `{c = e, ..}`
+    Rec(Fields),
+    /// `e.c`
+    Proj(Box<Exp>, Con),
+    /// `e1 ++ e2`
+    Cat(Box<Exp>, Box<Exp>),
+    /// `e -- c`
+    Drop(Box<Exp>, Con),
+    /// `e --- c`
+    DropRow(Box<Exp>, Con),
+    /// The folder of a row whose values have this kind.
+    Folder(Kind, Pairs),
+    /// An element of a page.
+    Element(Element),
+}
+
+/// What a term is applied to.
+#[cycle(exp)]
+#[derive(Drop)]
+pub enum Item {
+    /// A term; an inserted one is a folder or an instance.
+    Term(Exp),
+    /// A constructor, and whether it was inserted.
+    Con(Place, bool, Con),
+    /// A guard's proof, and whether it was inserted.
+    Guard(Place, bool),
+}
+
+/// What a term is applied to, from left to right.
+#[cycle(exp)]
+#[derive(Drop)]
+pub struct Items {
+    pub items: Vec<Item>,
+}
+
+/// A name with its term, its type and whether that was written.
+#[cycle(exp)]
+#[derive(Drop)]
+pub struct Named {
+    pub place: Place,
+    pub name: Sym,
+    pub written: bool,
+    pub con: Con,
+    pub exp: Exp,
+}
+
+/// Names that may be used in each other's terms.
+#[cycle(exp)]
+#[derive(Drop)]
+pub struct NamedList {
+    pub items: Vec<Named>,
+}
+
+/// A declaration of a `let`.
+#[cycle(exp)]
+#[derive(Drop)]
+pub enum Local {
+    Val(Named),
+    ValRec(NamedList),
+}
+
+/// The declarations of a `let`, in order.
+#[cycle(exp)]
+#[derive(Drop)]
+pub struct Locals {
+    pub items: Vec<Local>,
+}
+
+/// A branch of a `case`.
+#[cycle(exp)]
+#[derive(Drop)]
+pub struct Branch {
+    pub place: Place,
+    pub pat: Pat,
+    pub body: Exp,
+}
+
+/// Branches in order.
+#[cycle(exp)]
+#[derive(Drop)]
+pub struct Branches {
+    pub items: Vec<Branch>,
+}
+
+/// A field of a record.
+#[cycle(exp)]
+#[derive(Drop)]
+pub struct Field {
+    pub place: Place,
+    pub name: Con,
+    pub value: Exp,
+}
+
+/// The fields of a record, as written.
+#[cycle(exp)]
+#[derive(Drop)]
+pub struct Fields {
+    pub items: Vec<Field>,
+}
+
+/// An element of a page: its tag, the field that an input fills, the rows that were found for its
+/// place, its attributes, and the nodes that it holds.
+#[cycle(exp)]
+#[derive(Drop)]
+pub struct Element {
+    pub tag: TagName,
+    pub field: Option<Con>,
+    /// Where it stands, as a row of units.
+    pub context: Con,
+    /// The fields of the form that are filled before it.
+    pub uses: Con,
+    pub attributes: Attributes,
+    pub content: Exps,
+}
+
+/// An attribute of an element.
+#[cycle(exp)]
+#[derive(Drop)]
+pub struct Attribute {
+    pub place: Place,
+    pub name: AttrName,
+    pub value: Exp,
+}
+
+/// The attributes of an element, as written.
+#[cycle(exp)]
+#[derive(Drop)]
+pub struct Attributes {
+    pub items: Vec<Attribute>,
+}
+
+/// Terms in order.
+#[cycle(exp)]
+#[derive(Drop)]
+pub struct Exps {
+    pub items: Vec<Exp>,
+}
