@@ -1,0 +1,9 @@
+pub mod Words
+pub mod Table
+pub mod Forms
+pub mod Sides
+pub mod Fronts
+pub mod Trees
+pub mod Leads
+pub mod Listings
+pub mod Refusals
