@@ -19,6 +19,9 @@ use std::sync::Wait;
 /// How often the turn is looked at before a thread sleeps for it.
 const LOOKS: u32 = 100;
 
+// The turn's word while others may sleep for it.
+const CROWDED: u32 = 2;
+
 /// The shared value.
 #[derive(Drop)]
 pub struct Cell<S: Replays> {
@@ -27,10 +30,10 @@ pub struct Cell<S: Replays> {
     ghost sized: { (table.shared.table_id.words ≡ 2) × (table.shared.table_id.slots ≡ 1) },
 }
 
-// Who asks for the turn: one that looks for it and goes on, or one that sleeps where it isn't free.
+// Who asks for the turn: one that has not slept for it, or one that sleeps where it isn't free, and leaves word of that.
 #[derive(Clone, Copy)]
 enum Asker {
-    Looks,
+    Passes,
     Sleeps,
 }
 
@@ -117,14 +120,17 @@ impl<S: Replays> Cell<S> {
         requires { IsFreeOf self.now pass.old }
         ensures { TakesTurn S.number S.serial S.stands self.now pass.old pass.new result }
     {
+        self.look();
+        if let Some(turn) = self.try_take(pass, Asker::Passes) {
+            return turn;
+        }
+        // From here on the word is left at 2, since others may sleep that this thread was woken before.
         for _ in rt.forever() {
-            if let Some(turn) = self.look(pass) {
-                return turn;
-            }
             if let Some(turn) = self.try_take(pass, Asker::Sleeps) {
                 return turn;
             }
-            self.table.shared.park(rt, 0, 2);
+            self.table.shared.park(rt, 0, CROWDED);
+            self.look();
         }
         unreachable!()
     }
@@ -163,19 +169,14 @@ impl<S: Replays> Cell<S> {
         value
     }
 
-    // Looks for a while whether the turn is free, and takes it if it is.
-    fn look(&self, pass: &mut Pass<S>) -> Option<Turn<S>>
-        requires { IsFreeOf self.now pass.old }
-        ensures some { IfSome result (λ t. TakesTurn S.number S.serial S.stands self.now pass.old pass.new t) }
-        ensures none { IfNone result (StaysFree self.now pass.old pass.new) }
-    {
+    // Looks for a while, until the turn is free.
+    fn look(&self) {
         for _ in 0..LOOKS {
             if self.table.shared.peek(0) == 0 {
-                return self.try_take(pass, Asker::Looks);
+                return;
             }
             spin_loop();
         }
-        None
     }
 
     // Takes the turn with the value, if it is free.
@@ -202,7 +203,7 @@ impl<S: Replays> Cell<S> {
     {
         let shared = &self.table.shared;
         match asker {
-            Asker::Looks => shared.compare_exchange::<Take<S>>(seat, 0, 0, 1),
+            Asker::Passes => shared.compare_exchange::<Take<S>>(seat, 0, 0, 1),
             Asker::Sleeps => shared.swap::<Take<S>>(seat, 0, 2),
         }
     }

@@ -1,0 +1,5 @@
+use Rattle.cell_trial.specs.ShelfReady.{IsReady}
+use Rattle.cell_trial.proofs.shelf_workers.work.Given as goal
+
+abbrev pub invariant-loop : goal.invariant-loop
+invariant-loop g l = IsReady l.cell l.worker

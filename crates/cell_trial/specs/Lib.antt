@@ -1,0 +1,4 @@
+pub mod Counter
+pub mod Ready
+pub mod Shelf
+pub mod ShelfReady
