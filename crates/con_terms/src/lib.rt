@@ -9,6 +9,7 @@ pub mod kind;
 pub mod laws;
 pub mod place;
 pub mod rebuild;
+pub mod size;
 pub mod substitute;
 pub mod symbol;
 #[cfg(test)]

@@ -1,9 +1,9 @@
-use crate::con::{Con, Cons, Pair, Pairs};
-use crate::kind::{Kind, Kinds, same_kind};
-use crate::substitute::{shift, subst};
-use crate::symbol::{Sym, SymTable};
+use crate::con::Con;
+use crate::kind::{Kind, Kinds, copy_kind, same_kind};
+use crate::size::{fits, has_room};
+use crate::substitute::{copy_con, shift, subst};
+use crate::symbol::SymTable;
 use std::alloc::{AllocError, Global};
-use std::process::Abort;
 use std::test::Fail;
 
 fn record(alloc: Global, c: Con) -> Result<Con, AllocError> {
@@ -31,7 +31,9 @@ fn substitution_goes_under_binders(rt: HostRuntime) -> Result<(), Fail> {
     let alloc = rt.alloc();
     // `fn y => $x` with the free number 3 for x
     let body = lambda(alloc, record(alloc, Con::Var(1))?)?;
-    let new = subst(alloc, &body, &Con::Var(3))?;
+    let argument = Con::Var(3);
+    assert!(rt; has_room(&body) && has_room(&argument));
+    let new = subst(alloc, &body, &argument)?;
     let Con::Lambda(_, inner) = &new else {
         return Err(Fail::from("no function"))
     };
@@ -42,5 +44,34 @@ fn substitution_goes_under_binders(rt: HostRuntime) -> Result<(), Fail> {
         return Err(Fail::from("no variable"))
     };
     assert_eq!(rt; *number, 4);
+    Ok(())
+}
+
+#[test]
+fn deep_constructors(rt: HostRuntime) -> Result<(), Fail> {
+    let alloc = rt.alloc();
+    let mut c = Con::UnitCon;
+    for _ in 0..1999 {
+        c = record(alloc, c)?;
+    }
+    assert!(rt; fits(&c, 2000) && !fits(&c, 1999));
+    assert!(rt; has_room(&c));
+    let moved = shift(alloc, &c, 1, 0)?;
+    assert!(rt; fits(&moved, 2000));
+    assert!(rt; fits(&copy_con(alloc, &c)?, 2000));
+    Ok(())
+}
+
+#[test]
+fn kinds_one_by_one(rt: HostRuntime) -> Result<(), Fail> {
+    let alloc = rt.alloc();
+    let mut ks = Kinds::new(alloc);
+    ks.push(Kind::Types)?;
+    ks.push(Kind::Names)?;
+    assert_eq!(rt; ks.len(), 2);
+    let tuple = Kind::Tuple(ks);
+    let again = copy_kind(alloc, &tuple)?;
+    assert!(rt; same_kind(&tuple, &again));
+    assert!(rt; !same_kind(&tuple, &Kind::Types));
     Ok(())
 }

@@ -1,2 +1,12 @@
-//! To be written.
+//! Reads a tree of any form of the grammar by its table, with a stack of its own.
 #![tactic(auto)]
+
+pub mod machine;
+pub mod read;
+pub mod stop;
+pub mod tokens;
+pub mod want;
+
+pub use machine::Machine;
+pub use stop::Stop;
+pub use want::{Want, Wants};

@@ -1,7 +1,7 @@
 -- The lines that the program writes in place of a page.
 use Rattle.std.specs.Prelude.{ℕ, List, ◌++◌, codes, decimal, Option, Some, None}
-use Rattle.page_server.specs.declared.refusal.PageFault.{PageFault}
-use Rattle.page_server.specs.declared.refusal.PageFault.TheVariants.{FileTooLong, NotUtf8, BadChar, OpenText, OpenComment, IntTooLarge, NotBuilt, Memory}
+use Rattle.page_server.specs.declared.refusal.ModuleFault.{ModuleFault}
+use Rattle.page_server.specs.declared.refusal.ModuleFault.TheVariants.{FileTooLong, NotUtf8, BadChar, OpenText, OpenComment, IntTooLarge, NotBuilt, Memory}
 
 -- the line of a refusal of the whole module
 abbrev pub line_whole : List ℕ → List ℕ
@@ -12,7 +12,7 @@ abbrev pub line_at : ℕ → List ℕ → List ℕ
 line_at at name = codes "Main.ur:" ++ decimal at ++ codes ": " ++ name ++ codes "\n"
 
 -- the line of a refusal; want of memory has none
-abbrev pub line_of : PageFault → Option (List ℕ)
+abbrev pub line_of : ModuleFault → Option (List ℕ)
 line_of FileTooLong = Some (line_whole (codes "FileTooLong"))
 line_of NotUtf8 = Some (line_whole (codes "NotUtf8"))
 line_of (BadChar at) = Some (line_at at (codes "BadChar"))

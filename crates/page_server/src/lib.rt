@@ -7,4 +7,4 @@ pub mod refusal;
 
 pub use command::{Ended, top};
 pub use module::page_of;
-pub use refusal::PageFault;
+pub use refusal::ModuleFault;

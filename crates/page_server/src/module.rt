@@ -1,21 +1,30 @@
 //! From the bytes of a module to its page.
-use crate::PageFault;
+ghost use Rattle.std.specs.Prelude.{◌≡◌, ◌⊎◌, IfOk, IfErr, IsOk, Err};
+ghost use Rattle.xml_trees.specs.Trees.{Trees, IsWhole, built, trees_of};
+ghost use Rattle.page_server.specs.Modules.{HasPage, IsRefused};
+
+use crate::ModuleFault;
 use std::alloc::Global;
 use std::str;
 use ur_lexer::lex;
-use ur_parser::{SmallFault, read_small};
+use ur_parser::read_small;
 use xml_trees::Page;
 
 /// The most bytes that a module has.
 pub const LONGEST: usize = 4194304;
 
 /// The page of a module.
-pub fn page_of(alloc: Global, module: &[u8]) -> Result<Page, PageFault> {
-    if module.len() > LONGEST {
-        return Err(PageFault::FileTooLong);
+pub fn page_of(alloc: Global, bytes: &[u8]) -> Result<Page, ModuleFault>
+    ensures whole { IfOk result (λ page. IsWhole (built page)) }
+    ensures page { IfOk result (λ page. HasPage bytes.now (trees_of (built page))) }
+    ensures refused { IfErr result (IsRefused bytes.now) }
+    ensures complete { (trees : Trees) → HasPage bytes.now trees → IsOk result ⊎ (result ≡ Err ModuleFault.Memory) }
+{
+    if bytes.len() > LONGEST {
+        return Err(ModuleFault::FileTooLong);
     }
-    let Ok(text) = str::from_utf8(module) else {
-        return Err(PageFault::NotUtf8);
+    let Ok(text) = str::from_utf8(bytes) else {
+        return Err(ModuleFault::NotUtf8);
     };
     let tokens = lex(alloc, text)?;
     let small = read_small(alloc, &tokens)?;

@@ -9,7 +9,7 @@ use ur_parser::SmallFault;
 
 /// Why a module has no page, in the order in which it is asked. `at` is a byte of the module.
 #[derive(Debug, Drop, Error)]
-pub enum PageFault {
+pub enum ModuleFault {
     /// The module is longer than 4,194,304 bytes.
     #[error("the module is longer than 4,194,304 bytes")]
     FileTooLong,
@@ -36,33 +36,33 @@ pub enum PageFault {
     Memory,
 }
 
-impl From<LexFault> for PageFault {
+impl From<LexFault> for ModuleFault {
     ghost use Rattle.std.specs.Prelude.{◌≡◌};
     ghost use Rattle.page_server.specs.Modules.{lexical};
 
     ghost from_gives = { λ fault made. made ≡ lexical fault };
 
-    fn from(fault: LexFault) -> PageFault {
+    fn from(fault: LexFault) -> ModuleFault {
         match fault {
-            LexFault::BadChar { at } => PageFault::BadChar { at },
-            LexFault::OpenText { at } => PageFault::OpenText { at },
-            LexFault::OpenComment { at } => PageFault::OpenComment { at },
-            LexFault::IntTooLarge { at } => PageFault::IntTooLarge { at },
-            LexFault::Memory => PageFault::Memory,
+            LexFault::BadChar { at } => ModuleFault::BadChar { at },
+            LexFault::OpenText { at } => ModuleFault::OpenText { at },
+            LexFault::OpenComment { at } => ModuleFault::OpenComment { at },
+            LexFault::IntTooLarge { at } => ModuleFault::IntTooLarge { at },
+            LexFault::Memory => ModuleFault::Memory,
         }
     }
 }
 
-impl From<SmallFault> for PageFault {
+impl From<SmallFault> for ModuleFault {
     ghost use Rattle.std.specs.Prelude.{◌≡◌};
     ghost use Rattle.page_server.specs.Modules.{unread};
 
     ghost from_gives = { λ fault made. made ≡ unread fault };
 
-    fn from(fault: SmallFault) -> PageFault {
+    fn from(fault: SmallFault) -> ModuleFault {
         match fault {
-            SmallFault::NotBuilt => PageFault::NotBuilt,
-            SmallFault::Memory => PageFault::Memory,
+            SmallFault::NotBuilt => ModuleFault::NotBuilt,
+            SmallFault::Memory => ModuleFault::Memory,
         }
     }
 }
@@ -89,20 +89,20 @@ fn line_whole(alloc: Global, name: &str) -> Result<String, AllocError>
     Ok(line)
 }
 
-impl PageFault {
+impl ModuleFault {
     /// The line that tells the refusal. Want of memory has none, and answers so.
     pub fn line(&self, alloc: Global) -> Result<String, AllocError>
         ensures { IfOk result (λ line. line_of self.now ≡ Some (string_bytes line)) }
     {
         match self {
-            PageFault::FileTooLong => line_whole(alloc, "FileTooLong"),
-            PageFault::NotUtf8 => line_whole(alloc, "NotUtf8"),
-            PageFault::BadChar { at } => line_at(alloc, *at, "BadChar"),
-            PageFault::OpenText { at } => line_at(alloc, *at, "OpenText"),
-            PageFault::OpenComment { at } => line_at(alloc, *at, "OpenComment"),
-            PageFault::IntTooLarge { at } => line_at(alloc, *at, "IntTooLarge"),
-            PageFault::NotBuilt => line_whole(alloc, "NotBuilt"),
-            PageFault::Memory => Err(AllocError),
+            ModuleFault::FileTooLong => line_whole(alloc, "FileTooLong"),
+            ModuleFault::NotUtf8 => line_whole(alloc, "NotUtf8"),
+            ModuleFault::BadChar { at } => line_at(alloc, *at, "BadChar"),
+            ModuleFault::OpenText { at } => line_at(alloc, *at, "OpenText"),
+            ModuleFault::OpenComment { at } => line_at(alloc, *at, "OpenComment"),
+            ModuleFault::IntTooLarge { at } => line_at(alloc, *at, "IntTooLarge"),
+            ModuleFault::NotBuilt => line_whole(alloc, "NotBuilt"),
+            ModuleFault::Memory => Err(AllocError),
         }
     }
 }
