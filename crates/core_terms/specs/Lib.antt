@@ -1,3 +1,14 @@
 pub mod Trees
 pub mod View
 pub mod Strip
+pub mod Names
+pub mod Types
+pub mod Basis
+pub mod Datatypes
+pub mod Scopes
+pub mod Seen
+pub mod Cover
+pub mod Patterns
+pub mod Markup
+pub mod Carried
+pub mod Typed

@@ -1,0 +1,66 @@
+-- What is in scope where a term stands.
+use Rattle.std.specs.Prelude.{ℕ, ◌==◌, List, [], ◌∷◌, ◌++◌, map, Option, Some, None, if◌then◌else◌}
+use Rattle.con_terms.specs.Trees.{Kd, types, row_of, to, Cn}
+use Rattle.con_terms.specs.Substitution.{shift}
+use Rattle.con_terms.specs.Kinded.{Scope, bind, assume}
+use Rattle.row_normal.specs.NormalForm.{nf}
+use Rattle.core_terms.specs.Names.{int_name, string_name, url_name, transaction_name, xml_name, show_name, eq_name, ord_name, num_name}
+use Rattle.core_terms.specs.Types.{type_taking}
+use Rattle.core_terms.specs.Trees.{Dt}
+use Rattle.con_terms.specs.Trees.{units}
+
+-- kinds of constructor variables and assumed guards; types of variables, the innermost first; types of the top-level values, by their numbers; datatypes; the symbol of folder at each kind; how many foreign effects there are
+pub record Sc : Type 0 where
+  pub kinds : Scope
+  pub locals : List Cn
+  pub tops : List Cn
+  pub datatypes : List Dt
+  pub folders : List (Kd × ℕ)
+  pub effects : ℕ
+
+-- under variables of these types, the innermost first
+abbrev pub under : List Cn → Sc → Sc
+under ts G = record { kinds = G.kinds; locals = ts ++ G.locals; tops = G.tops; datatypes = G.datatypes; folders = G.folders; effects = G.effects }
+
+-- under one more constructor variable: types of variables are seen from under it; those of top-level values have no free variables
+abbrev pub under_con : Kd → Sc → Sc
+under_con k G = record { kinds = bind k G.kinds; locals = map (λ t. shift 1 t 0) G.locals; tops = G.tops; datatypes = G.datatypes; folders = G.folders; effects = G.effects }
+
+-- with one more guard
+abbrev pub under_guard : Cn → Cn → Sc → Sc
+under_guard c d G = record { kinds = assume c d G.kinds; locals = G.locals; tops = G.tops; datatypes = G.datatypes; folders = G.folders; effects = G.effects }
+
+-- the kinds of the types of the basis
+abbrev pub basis_kinds : List (ℕ × Kd)
+basis_kinds =
+    (int_name, types) ∷ (string_name, types) ∷ (url_name, types) ∷ (transaction_name, to types types)
+    ∷ (xml_name, to (row_of units) (to (row_of types) (to (row_of types) types)))
+    ∷ (show_name, to types types) ∷ (eq_name, to types types) ∷ (ord_name, to types types) ∷ (num_name, to types types) ∷ []
+
+-- the kinds of datatypes and folders
+abbrev pub datatype_kinds : List Dt → List (ℕ × Kd)
+datatype_kinds [] = []
+datatype_kinds (d ∷ ds) = (d.symbol, type_taking d.parameters) ∷ datatype_kinds ds
+
+abbrev pub folder_kinds : List (Kd × ℕ) → List (ℕ × Kd)
+folder_kinds [] = []
+folder_kinds (f ∷ fs) = (f.1, to (row_of f.0) types) ∷ folder_kinds fs
+
+-- a scope at the top
+abbrev pub top_scope : List Cn → List Dt → List (Kd × ℕ) → ℕ → Sc
+top_scope tops ds fs effects = record {
+  kinds = record { binders = []; guards = []; basics = basis_kinds ++ datatype_kinds ds ++ folder_kinds fs };
+  locals = [];
+  tops = tops;
+  datatypes = ds;
+  folders = fs;
+  effects = effects;
+}
+
+-- how many units one comparison has
+abbrev pub comparison_units : ℕ
+comparison_units = 100000
+
+-- a constructor's normal form, where it isn't too large
+abbrev pub normal_of : Cn → Option Cn
+normal_of c = elim (nf comparison_units c) [ None ↦ None | Some r ↦ Some r.0 ]
