@@ -1,0 +1,5 @@
+pub mod Lengths
+pub mod Pieces
+pub mod Putting
+pub mod Tags
+pub mod Written

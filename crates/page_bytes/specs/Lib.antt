@@ -1,0 +1,5 @@
+pub mod Chunks
+pub mod Escapes
+pub mod Lengths
+pub mod Pages
+pub mod Puts
