@@ -1,0 +1,5 @@
+pub mod Chosen
+pub mod Grown
+pub mod Grows
+pub mod Ranks
+pub mod Smaller

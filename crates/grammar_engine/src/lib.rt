@@ -4,6 +4,8 @@
 pub mod machine;
 pub mod read;
 pub mod stop;
+#[cfg(test)]
+mod tests;
 pub mod tokens;
 pub mod want;
 

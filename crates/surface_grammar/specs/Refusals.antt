@@ -1,13 +1,22 @@
--- Where tokens are refused.
+-- Whole texts, and where one is refused.
 use Rattle.std.specs.Prelude.{◌≡◌, ℕ, List, ◌++◌, None, take, drop}
 use Rattle.surface_tree.specs.declared.token.Token.{Token}
-use Rattle.surface_tree.specs.declared.token.Content.TheVariants.{Nothing}
+use Rattle.surface_tree.specs.declared.token.Content.{Content}
 use Rattle.surface_grammar.specs.declared.part.Part.{Part}
+use Rattle.surface_grammar.specs.Listings.{Listing, Lists}
 use Rattle.surface_grammar.specs.Trees.{Node, spell, Fits}
 
--- a whole text: a tree for the part, at most so many levels deep, with nothing behind it
+-- a whole text: a tree for the part, at most so many levels deep, with nothing behind it, and no element
+-- around it, so that the name of one doesn't matter
 abbrev pub Whole : ℕ → Part → Node → Type 0
-Whole room p n = Fits room Nothing n p None
+Whole room p n = (name : Content) × Fits room name n p None
+
+-- the tree of the code is one of the whole text
+pub record WholeTree (room : ℕ) (p : Part) (ts : List Token) (tree : Listing) : Type 0 where
+  pub node : Node
+  pub whole : Whole room p node
+  pub lists : Lists tree node
+  pub spells : spell node ≡ ts
 
 -- some tree begins with the tokens before this place
 abbrev pub Allows : ℕ → Part → List Token → ℕ → Type 0

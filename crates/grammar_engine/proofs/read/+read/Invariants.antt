@@ -1,0 +1,31 @@
+use Rattle.std.proofs.Common.{◌≡◌, ◌+◌, ◌*◌, ◌++◌, drop}
+use Rattle.grammar_engine.proofs.Grown.{Grows}
+use Rattle.grammar_engine.proofs.Smaller.{left_over}
+use Rattle.grammar_engine.proofs.read.+read.Given as goal
+
+abbrev pub decreases-is_bind : goal.decreases-is_bind
+decreases-is_bind l = 10 * l.races + 2
+
+abbrev pub decreases-is_kinded : goal.decreases-is_kinded
+decreases-is_kinded l = 10 * l.races + 2
+
+abbrev pub decreases-is_open : goal.decreases-is_open
+decreases-is_open l = 10 * l.races + 1
+
+abbrev pub decreases-meet : goal.decreases-meet
+decreases-meet l = 10 * l.races + 4
+
+abbrev pub decreases-pick : goal.decreases-pick
+decreases-pick l = 10 * l.races + 3
+
+abbrev pub decreases-read_part : goal.decreases-read_part
+decreases-read_part l = 10 * l.races + 5
+
+abbrev pub invariant-read_part-loop-want : goal.invariant-read_part-loop-want
+invariant-read_part-loop-want l = record {
+  grows : Grows l.fn.tokens.items l.fn.part l.fn.at l.fn.room (drop l.machine.at l.fn.tokens.items) l.machine.wants l.machine.tree.leaves l.machine.tree.marks;
+  read : drop l.fn.at l.fn.tokens.items ≡ l.machine.tree.leaves ++ drop l.machine.at l.fn.tokens.items;
+}
+
+abbrev pub decreases-read_part-loop-want : goal.decreases-read_part-loop-want
+decreases-read_part-loop-want l = left_over (drop l.machine.at l.tokens.items) l.machine.wants

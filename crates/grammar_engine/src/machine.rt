@@ -1,0 +1,187 @@
+//! The state of reading, and its steps.
+ghost use Rattle.std.specs.Prelude.{◌≡◌, ◌++◌, ◌∷◌, [], drop, true, OnOk, IfOk, IfSome, IsTrue};
+ghost use Rattle.surface_grammar.specs.Fronts.{first_kind};
+ghost use Rattle.surface_grammar.specs.Table.{body_of};
+ghost use Rattle.grammar_engine.specs.Moves.{Begun, Chosen, Expands, Goes, Takes, wants_of};
+ghost use Rattle.grammar_engine.specs.Places.{name_at};
+
+use crate::tokens::{copy_token, kind_at, same_name};
+use crate::{Stop, Want, Wants};
+use std::alloc::{AllocError, Global};
+use surface_grammar::sides::is_tag;
+use surface_grammar::words::accepts;
+use surface_grammar::{Form, Mark, Part, Rule, Tree};
+use surface_tree::{Kind, Tokens};
+
+/// How far reading has come: the place of the next token, what is still to be read, the tree so
+/// far, and the farthest place at which a way that was tried beside this one was refused.
+#[derive(Drop)]
+pub struct Machine {
+    pub at: usize,
+    pub wants: Wants,
+    pub tree: Tree,
+    pub far: usize,
+}
+
+/// Whether the token at the place holds the name that the token at the other place holds.
+fn is_named(tokens: &Tokens, place: usize, tag: usize) -> bool
+    ensures { IsTrue result → name_at tokens.now.items place ≡ name_at tokens.now.items tag }
+{
+    place < tokens.len() && tag < tokens.len() && same_name(tokens.at(place), tokens.at(tag))
+}
+
+/// The first rule of the form that the token begins.
+pub fn choose(form: Form, next: Option<Kind>) -> Option<Rule>
+    ensures { IfSome result (λ q. Chosen form next q) }
+{
+    let kind = next?;
+    for rule in form.rules() {
+        if rule.starts(kind) {
+            return Some(*rule);
+        }
+    }
+    None
+}
+
+impl Machine {
+    /// The part is to be read from this place on, at most so many levels deep.
+    pub fn new(alloc: Global, part: Part, at: usize, room: u32) -> Result<Machine, AllocError>
+        ensures { IfOk result (Begun part at room) }
+    {
+        let mut wants = Wants::new(alloc);
+        wants.push(Want {
+            part,
+            room,
+            tag: at,
+        })?;
+        Ok(Machine {
+            at,
+            wants,
+            tree: Tree::new(alloc),
+            far: at,
+        })
+    }
+
+    /// The refusal of the next token, or of a later one that another way came to.
+    pub fn refuse(&self) -> Stop {
+        Stop::Refused(self.at.max(self.far))
+    }
+
+    /// Takes the next token for the word.
+    pub fn take(
+        &mut self,
+        alloc: Global,
+        tokens: &Tokens,
+        word: Kind,
+        tag: usize,
+    ) -> Result<(), Stop>
+        ensures { OnOk result (Takes tokens.now.items word tag self.old self.new) }
+    {
+        if self.at >= tokens.len() {
+            return Err(self.refuse());
+        }
+        let token = tokens.at(self.at);
+        if !accepts(word, token.kind) {
+            return Err(self.refuse());
+        }
+        if is_tag(word) && !is_named(tokens, self.at, tag) {
+            return Err(self.refuse());
+        }
+        self.tree.leaf(copy_token(alloc, token)?)?;
+        self.tree.mark(Mark::Leaf)?;
+        self.at += 1;
+        Ok(())
+    }
+
+    /// The parts of the rule are to be read.
+    fn expand(&mut self, rule: Rule, room: u32, tag: usize) -> Result<(), AllocError>
+        ensures wants { OnOk result (self.new.wants ≡ wants_of room tag (body_of rule) ++ self.old.wants) }
+        ensures tree { OnOk result (self.new.tree ≡ self.old.tree) }
+        ensures at { self.new.at ≡ self.old.at }
+    {
+        let parts = rule.body();
+        let mut left = parts.len();
+        while left > 0 {
+            left -= 1;
+            self.wants.push(Want {
+                part: parts[left],
+                room,
+                tag,
+            })?;
+        }
+        Ok(())
+    }
+
+    /// Begins a tree of the form by this rule.
+    pub fn begin(
+        &mut self,
+        tokens: &Tokens,
+        form: Form,
+        rule: Rule,
+        room: u32,
+        tag: usize,
+    ) -> Result<(), Stop>
+        requires { Chosen form (first_kind (drop self.old.at tokens.now.items)) rule }
+        ensures { OnOk result (Expands tokens.now.items form room tag self.old self.new) }
+    {
+        if rule.is_deep() && room == 0 {
+            return Err(self.refuse());
+        }
+        let inner = if rule.is_deep() { room - 1 } else { room };
+        let own = if rule.is_element() { self.at } else { tag };
+        self.tree.mark(Mark::Rule(rule))?;
+        self.expand(rule, inner, own)?;
+        Ok(())
+    }
+
+    /// Reads another tree of a repetition, or ends it.
+    pub fn again(
+        &mut self,
+        tokens: &Tokens,
+        form: Form,
+        room: u32,
+        tag: usize,
+    ) -> Result<(), AllocError>
+        ensures { OnOk result (Goes tokens.now.items form room tag (record { part = Part.Many form; room = room; tag = tag } ∷ []) self.old self.new) }
+    {
+        if form.begins(kind_at(tokens, self.at)) {
+            self.tree.mark(Mark::Item)?;
+            self.wants.push(Want {
+                part: Part::Many(form),
+                room,
+                tag,
+            })?;
+            self.wants.push(Want {
+                part: Part::One(form),
+                room,
+                tag,
+            })?;
+        } else {
+            self.tree.mark(Mark::End)?;
+        }
+        Ok(())
+    }
+
+    /// Reads the tree of an option, or leaves it out.
+    pub fn perhaps(
+        &mut self,
+        tokens: &Tokens,
+        form: Form,
+        room: u32,
+        tag: usize,
+    ) -> Result<(), AllocError>
+        ensures { OnOk result (Goes tokens.now.items form room tag [] self.old self.new) }
+    {
+        if form.begins(kind_at(tokens, self.at)) {
+            self.tree.mark(Mark::Item)?;
+            self.wants.push(Want {
+                part: Part::One(form),
+                room,
+                tag,
+            })?;
+        } else {
+            self.tree.mark(Mark::End)?;
+        }
+        Ok(())
+    }
+}

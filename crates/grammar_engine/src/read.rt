@@ -1,0 +1,226 @@
+//! Reading a part to its end.
+ghost use Rattle.std.specs.Prelude.{◌≡◌, ◌∷◌, drop, OnOk, IfSome, IfOk};
+ghost use Rattle.surface_grammar.specs.Fronts.{first_kind};
+ghost use Rattle.surface_grammar.specs.Refusals.{deepest, WholeTree};
+ghost use Rattle.grammar_engine.specs.Moves.{Chosen, Kept, MeetsPart};
+ghost use Rattle.grammar_engine.specs.Reads.{Reads};
+
+use crate::machine::choose;
+use crate::tokens::kind_at;
+use crate::{Machine, Stop, Want};
+use std::alloc::{AllocError, Global};
+use surface_grammar::{ConRule, ExpRule, Form, ParseFault, Part, Rule, SqlRule, Tree};
+use surface_tree::{Kind, Tokens};
+
+/// A way of reading that may be open: a tree of the form begins at the place, and such a token
+/// stands behind it.
+#[derive(Clone, Copy, Debug)]
+struct Way {
+    form: Form,
+    start: usize,
+    behind: Kind,
+}
+
+/// Reads the longest tree for the part that begins at the place and is at most so many levels
+/// deep, and tells the place behind it. Where one token doesn't decide between two rules of a form,
+/// it tries the first of them beforehand, at most `races` times within each other; 2 are enough for
+/// the grammar.
+#[cycle(read)]
+pub fn read_part(
+    alloc: Global,
+    tokens: &Tokens,
+    part: Part,
+    at: usize,
+    room: u32,
+    races: u32,
+) -> Result<(Tree, usize), Stop>
+    ensures { IfOk result (λ read. Reads tokens.now.items part at room read.0 read.1) }
+{
+    let mut machine = Machine::new(alloc, part, at, room)?;
+    while let Some(want) = machine.wants.pop() {
+        meet(&mut machine, alloc, tokens, want, races)?;
+    }
+    Ok((machine.tree, machine.at))
+}
+
+/// Meets what is to be read next.
+#[cycle(read)]
+fn meet(
+    machine: &mut Machine,
+    alloc: Global,
+    tokens: &Tokens,
+    want: Want,
+    races: u32,
+) -> Result<(), Stop>
+    ensures { OnOk result (MeetsPart tokens.now.items want.part want.room want.tag machine.old machine.new) }
+{
+    match want.part {
+        Part::Word(word) => machine.take(alloc, tokens, word, want.tag),
+        Part::One(form) => {
+            let rule = pick(machine, alloc, tokens, form, want.room, races)?;
+            machine.begin(tokens, form, rule, want.room, want.tag)
+        }
+        Part::Many(form) => Ok(machine.again(tokens, form, want.room, want.tag)?),
+        Part::Maybe(form) => Ok(machine.perhaps(tokens, form, want.room, want.tag)?),
+    }
+}
+
+/// The rule of the form by which reading goes on.
+#[cycle(read)]
+fn pick(
+    machine: &mut Machine,
+    alloc: Global,
+    tokens: &Tokens,
+    form: Form,
+    room: u32,
+    races: u32,
+) -> Result<Rule, Stop>
+    ensures chosen { IfOk result (λ q. Chosen form (first_kind (drop machine.old.at tokens.now.items)) q) }
+    ensures kept { OnOk result (Kept machine.old machine.new) }
+{
+    let next = kind_at(tokens, machine.at);
+    match form {
+        Form::Exp => {
+            if is_bind(machine, alloc, tokens, room, races)? {
+                return Ok(Rule::Exp(ExpRule::ExpBind));
+            }
+            Ok(Rule::Exp(ExpRule::ExpPlain))
+        }
+        Form::ConParenRest if next == Some(Kind::LowerName) => {
+            if is_kinded(machine, alloc, tokens, room, races)? {
+                return Ok(Rule::Con(ConRule::ConKinded));
+            }
+            Ok(Rule::Con(ConRule::ConGroup))
+        }
+        Form::SqlBraceRest => {
+            let second = kind_at(tokens, machine.at.saturating_add(1));
+            if next == Some(Kind::LeftBracket) && second != Some(Kind::RightBracket) {
+                return Ok(Rule::Sql(SqlRule::SqlSplice));
+            }
+            Ok(Rule::Sql(SqlRule::SqlExp))
+        }
+        _ => choose(form, next).ok_or(machine.refuse()),
+    }
+}
+
+/// Whether a pattern and `<-` stand here. Where they don't, the place at which this way is refused
+/// is kept. Without room for what stands behind `<-` they can't.
+#[cycle(read)]
+fn is_bind(
+    machine: &mut Machine,
+    alloc: Global,
+    tokens: &Tokens,
+    room: u32,
+    races: u32,
+) -> Result<bool, AllocError>
+    ensures { OnOk result (Kept machine.old machine.new) }
+{
+    if room == 0 {
+        return Ok(false);
+    }
+    let way = Way {
+        form: Form::Pat,
+        start: machine.at,
+        behind: Kind::LeftArrow,
+    };
+    is_open(machine, alloc, tokens, way, room, races)
+}
+
+/// Whether a lower name, `::`, a kind and `)` stand here.
+#[cycle(read)]
+fn is_kinded(
+    machine: &mut Machine,
+    alloc: Global,
+    tokens: &Tokens,
+    room: u32,
+    races: u32,
+) -> Result<bool, AllocError>
+    ensures { OnOk result (Kept machine.old machine.new) }
+{
+    let mark = machine.at.saturating_add(1);
+    if kind_at(tokens, mark) != Some(Kind::DoubleColon) {
+        return Ok(false);
+    }
+    let way = Way {
+        form: Form::KindTerm,
+        start: mark.saturating_add(1),
+        behind: Kind::RightParenthesis,
+    };
+    is_open(machine, alloc, tokens, way, room, races)
+}
+
+/// Whether the way is open. Where it isn't, the place at which it is refused is kept.
+#[cycle(read)]
+fn is_open(
+    machine: &mut Machine,
+    alloc: Global,
+    tokens: &Tokens,
+    way: Way,
+    room: u32,
+    races: u32,
+) -> Result<bool, AllocError>
+    ensures { OnOk result (Kept machine.old machine.new) }
+{
+    if races == 0 || !way.form.begins(kind_at(tokens, way.start)) {
+        return Ok(false);
+    }
+    match read_part(
+        alloc,
+        tokens,
+        Part::One(way.form),
+        way.start,
+        room,
+        races - 1,
+    ) {
+        Ok((_tree, end)) => {
+            machine.far = machine.far.max(end);
+            Ok(kind_at(tokens, end) == Some(way.behind))
+        }
+        Err(Stop::Refused(place)) => {
+            machine.far = machine.far.max(place);
+            Ok(false)
+        }
+        Err(Stop::Memory) => Err(AllocError),
+    }
+}
+
+/// The byte of the text at which the token at the place begins, or the text's length at the end.
+fn byte_of(tokens: &Tokens, place: usize) -> u32 {
+    if place < tokens.len() {
+        tokens.at(place).at
+    } else {
+        tokens.end()
+    }
+}
+
+/// How deep the trees of a text may be.
+pub const DEEPEST: u32 = 200;
+
+/// Reads all the tokens as a tree for the part that begins at the place and is at most so many
+/// levels deep.
+fn read_all(alloc: Global, tokens: &Tokens, part: Part, room: u32) -> Result<Tree, Stop>
+    ensures { IfOk result (λ tree. WholeTree room part tokens.now.items tree) }
+{
+    let (tree, end) = read_part(alloc, tokens, part, 0, room, 2)?;
+    if end < tokens.len() {
+        return Err(Stop::Refused(end));
+    }
+    Ok(tree)
+}
+
+/// The tree for the part that spells the tokens, at most 200 levels deep.
+pub fn read_whole(alloc: Global, tokens: &Tokens, part: Part) -> Result<Tree, ParseFault>
+    ensures { IfOk result (λ tree. WholeTree deepest part tokens.now.items tree) }
+{
+    let place = match read_all(alloc, tokens, part, DEEPEST) {
+        Ok(tree) => return Ok(tree),
+        Err(Stop::Refused(place)) => place,
+        Err(Stop::Memory) => return Err(ParseFault::Memory),
+    };
+    let at = byte_of(tokens, place);
+    match read_all(alloc, tokens, part, u32::MAX) {
+        Err(Stop::Memory) => Err(ParseFault::Memory),
+        Err(Stop::Refused(later)) if later <= place => Err(ParseFault::Syntax { at }),
+        _ => Err(ParseFault::TooDeep { at }),
+    }
+}
