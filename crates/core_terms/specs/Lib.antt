@@ -12,3 +12,14 @@ pub mod Patterns
 pub mod Markup
 pub mod Carried
 pub mod Typed
+pub mod Values
+pub mod Matching
+pub mod Wired
+pub mod Applied
+pub mod Meaning
+pub mod Actions
+pub mod Declarations
+pub mod Targets
+pub mod Entries
+pub mod Accepts
+pub mod Requests
