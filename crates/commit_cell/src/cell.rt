@@ -120,8 +120,7 @@ impl<S: Replays> Cell<S> {
         requires { IsFreeOf self.now pass.old }
         ensures { TakesTurn S.number S.serial S.stands self.now pass.old pass.new result }
     {
-        self.look();
-        if let Some(turn) = self.try_take(pass, Asker::Passes) {
+        if let Some(turn) = self.take_awake(pass) {
             return turn;
         }
         // From here on the word is left at 2, since others may sleep that this thread was woken before.
@@ -167,6 +166,19 @@ impl<S: Replays> Cell<S> {
     {
         let Turn { value, taken: _ } = self.take(rt, &mut pass);
         value
+    }
+
+    // Takes the turn if it is free, or is soon.
+    fn take_awake(&self, pass: &mut Pass<S>) -> Option<Turn<S>>
+        requires { IsFreeOf self.now pass.old }
+        ensures some { IfSome result (λ t. TakesTurn S.number S.serial S.stands self.now pass.old pass.new t) }
+        ensures none { IfNone result (StaysFree self.now pass.old pass.new) }
+    {
+        if let Some(turn) = self.try_take(pass, Asker::Passes) {
+            return Some(turn);
+        }
+        self.look();
+        self.try_take(pass, Asker::Passes)
     }
 
     // Looks for a while, until the turn is free.

@@ -1,0 +1,84 @@
+// The two runs, as they are printed.
+use crate::cell_side::cell_time;
+use crate::load::{Load, rounds_of};
+use crate::mutex_side::mutex_time;
+use anyhow::Context;
+use std::alloc::Global;
+use std::sync::Wait;
+use std::thread::Threads;
+use std::time::{Clock, Duration};
+
+const THREADS: [u32; 3] = [1, 2, 4];
+
+// How often each measurement is made; the best counts.
+const TRIALS: u32 = 100;
+
+/// A few commits by each side, with the counts that they leave.
+pub fn tiny<R: Wait + Threads + Clock + Print + Sync>(rt: &R, alloc: Global) -> anyhow::Result<()> {
+    let load = Load {
+        commits: 100,
+        rounds: 1,
+    };
+    for threads in THREADS {
+        let (_, cell) = cell_time(rt, alloc, threads, load).context("memory")?;
+        let (_, mutex) = mutex_time(rt, alloc, threads, load).context("memory")?;
+        println!(rt; "threads {threads}: {cell} commits by the cell, {mutex} by the mutex")?;
+    }
+    Ok(())
+}
+
+fn best(times: &mut f64, time: Duration) {
+    let seconds = time.as_secs_f64();
+    if seconds < *times {
+        *times = seconds;
+    }
+}
+
+/// Measures, and prints commits a second and what a commit costs its thread beyond its work, which is mostly waiting.
+pub fn full<R: Wait + Threads + Clock + Print + Sync>(rt: &R, alloc: Global) -> anyhow::Result<()> {
+    let rounds = rounds_of(rt, 10.0).context("the clock")?;
+    println!(rt; "work  threads  cell/s  mutex/s  cell/mutex  cell waits ns  mutex waits ns")?;
+    for (micros, rounds, all) in [(0.0, 0, 200_000), (10.0, rounds, 400)] {
+        for threads in THREADS {
+            line(rt, alloc, micros, rounds, all, threads)?;
+        }
+    }
+    Ok(())
+}
+
+fn line<R: Wait + Threads + Clock + Print + Sync>(
+    rt: &R,
+    alloc: Global,
+    micros: f64,
+    rounds: u64,
+    all: u32,
+    threads: u32,
+) -> anyhow::Result<()> {
+    let load = Load {
+        commits: u64::from(all / threads.max(1)),
+        rounds,
+    };
+    let mut cell = f64::MAX;
+    let mut mutex = f64::MAX;
+    for _ in 0..TRIALS {
+        best(
+            &mut cell,
+            cell_time(rt, alloc, threads, load).context("memory")?.0,
+        );
+        best(
+            &mut mutex,
+            mutex_time(rt, alloc, threads, load).context("memory")?.0,
+        );
+    }
+    let commits = f64::from(all);
+    let waits = |seconds: f64| seconds * f64::from(threads) / commits * 1.0e9 - micros * 1.0e3;
+    println!(rt;
+        "{micros:.0}  {threads}  {:.0}  {:.0}  {:.2}  {:.0}  {:.0}",
+        commits / cell,
+        commits / mutex,
+        mutex / cell,
+        waits(cell),
+        waits(mutex)
+    )?;
+    Ok(())
+}
