@@ -3,7 +3,7 @@
 use Rattle.std.specs.Prelude.{ℕ, Bool, true, false, List, map, Option}
 use Rattle.con_terms.specs.Trees.{Kd, types, Cn, unit_con}
 use Rattle.con_terms.specs.declared.place.Place.{Place}
-use Rattle.core_terms.specs.Trees.{Pt, pattern, Pf, any, binds, is_number, is_text, is_bare, is_holding, has_fields, annotated, Pfs, no_pat_fields, pat_field, Ex, node, Fo, bound, top, foreign, basis, fold_over, number, text, built, fn, fn_con, fn_guard, call, let_in, case_of, fields_of, select, concat, without, without_row, folder, element, Its, no_items, with_term, with_con, with_guard, Nms, no_named, named, Los, no_locals, local_val, local_rec, Brs, no_branches, branch, Fds, no_fields, field, El, tagged, Ats, no_attributes, attribute, Xs, no_nodes, a_node, De, val, vals, con_is, datatype}
+use Rattle.core_terms.specs.Trees.{Pt, pattern, Pf, any, binds, is_number, is_text, is_bare, is_holding, has_fields, annotated, Pfs, no_pat_fields, pat_field, Ex, node, Fo, bound, top, foreign, basis, fold_over, number, text, built, fn, fn_con, fn_guard, call, let_in, case_of, ascribed, fields_of, select, concat, without, without_row, folder, element, Its, no_items, with_term, with_con, with_guard, Nms, no_named, named, Los, no_locals, local_val, local_rec, Brs, no_branches, branch, Fds, no_fields, field, El, tagged, Ats, no_attributes, attribute, Xs, no_nodes, a_node, De, val, vals, con_is, datatype}
 
 -- a type where it was written
 abbrev pub if_written : Bool → Cn → Cn
@@ -70,6 +70,7 @@ abbrev mutual
   strip_form (call f is) = call (strip f) (strip_items is)
   strip_form (let_in ls e) = let_in (strip_locals ls) (strip e)
   strip_form (case_of e p q b bs) = case_of (strip e) p (strip_pattern q) (strip b) (strip_branches bs)
+  strip_form (ascribed e t) = ascribed (strip e) t
   strip_form (fields_of fs) = fields_of (strip_fields fs)
   strip_form (select e c) = select (strip e) c
   strip_form (concat e d) = concat (strip e) (strip d)

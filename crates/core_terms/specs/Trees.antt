@@ -60,6 +60,8 @@ mutual
     let_in : Los → Ex → Fo
     -- case e of p => e | ..; the first branch stands apart from the rest
     case_of : Ex → Place → Pt → Ex → Brs → Fo
+    -- (e : t)
+    ascribed : Ex → Cn → Fo
     -- {c = e, ..}
     fields_of : Fds → Fo
     -- e.c

@@ -13,7 +13,7 @@ use Rattle.core_terms.specs.declared.basis.BasisName.TheVariants.{Txt, Cdata, Jo
 use Rattle.core_terms.specs.declared.markup.TagName.{TagName}
 use Rattle.core_terms.specs.declared.markup.AttrName.{AttrName}
 use Rattle.core_terms.specs.declared.markup.AttrName.TheVariants as attr
-use Rattle.core_terms.specs.Trees.{Pt, Ex, node, Fo, bound, top, foreign, basis, fold_over, number, text, built, fn, fn_con, fn_guard, call, let_in, case_of, fields_of, select, concat, without, without_row, folder, element, Its, no_items, with_term, with_con, with_guard, Nms, no_named, named, Los, no_locals, local_val, local_rec, Brs, no_branches, branch, Fds, no_fields, field, El, tagged, Ats, no_attributes, attribute, Xs, no_nodes, a_node, Cd, Dt}
+use Rattle.core_terms.specs.Trees.{Pt, Ex, node, Fo, bound, top, foreign, basis, fold_over, number, text, built, fn, fn_con, fn_guard, call, let_in, case_of, ascribed, fields_of, select, concat, without, without_row, folder, element, Its, no_items, with_term, with_con, with_guard, Nms, no_named, named, Los, no_locals, local_val, local_rec, Brs, no_branches, branch, Fds, no_fields, field, El, tagged, Ats, no_attributes, attribute, Xs, no_nodes, a_node, Cd, Dt}
 use Rattle.core_terms.specs.Types.{int_type, string_type, unit_type, type_row, no_types, one_field, transaction_of, xml_of}
 use Rattle.core_terms.specs.Basis.{basis_type, fold_type}
 use Rattle.core_terms.specs.Datatypes.{datatype_of, constructor_type}
@@ -97,6 +97,7 @@ mutual
     of_call : {G : Sc} {p : Place} {a : Bool} {f : Ex} {is : Its} {t u : Cn} → Typed G f t → Applies G t is u → Typed G (node p a (call f is)) u
     of_let : {G H : Sc} {p : Place} {a : Bool} {ls : Los} {e : Ex} {t : Cn} → Declares G ls H → Typed H e t → Typed G (node p a (let_in ls e)) t
     of_case : {G : Sc} {p q : Place} {a : Bool} {e b : Ex} {r : Pt} {bs : Brs} {t u : Cn} {ts : List Cn} → Typed G e t → PatTyped G r t ts → Typed (under ts G) b u → EachTyped G t bs u → Covers G.datatypes (r ∷ branch_patterns bs) t → Typed G (node p a (case_of e q r b bs)) u
+    of_ascribed : {G : Sc} {p : Place} {a : Bool} {e : Ex} {t : Cn} → Typed G e t → Typed G (node p a (ascribed e t)) t
     -- records
     of_fields : {G : Sc} {p : Place} {a : Bool} {fs : Fds} {ps : Prs} → FieldsTyped G fs ps → Kinded G.kinds (type_row ps) (row_of types) → Typed G (node p a (fields_of fs)) (record_of (type_row ps))
     of_select : {G : Sc} {p : Place} {a : Bool} {e : Ex} {c t r : Cn} → Typed G e (record_of (cat (one_field c t) r)) → Typed G (node p a (select e c)) t

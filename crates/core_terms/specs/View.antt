@@ -4,7 +4,7 @@ use Rattle.con_terms.specs.Trees.{Kd, Cn}
 use Rattle.con_terms.specs.View.{kind_tree, con_tree, pairs_tree}
 use Rattle.con_terms.specs.declared.place.Place.{Place}
 use Rattle.con_terms.specs.declared.con.Con.{Con}
-use Rattle.core_terms.specs.Trees.{Pt, pattern, Pf, any, binds, is_number, is_text, is_bare, is_holding, has_fields, annotated, Pfs, no_pat_fields, pat_field, Ex, node, Fo, bound, top, foreign, basis, fold_over, number, text, built, fn, fn_con, fn_guard, call, let_in, case_of, fields_of, select, concat, without, without_row, folder, element, Its, no_items, with_term, with_con, with_guard, Nms, no_named, named, Los, no_locals, local_val, local_rec, Brs, no_branches, branch, Fds, no_fields, field, El, tagged, Ats, no_attributes, attribute, Xs, no_nodes, a_node, It, a_term, a_con, a_guard, Lo, a_val, a_rec, Cd, Dt, De, val, vals, con_is, datatype, Ru, Pg}
+use Rattle.core_terms.specs.Trees.{Pt, pattern, Pf, any, binds, is_number, is_text, is_bare, is_holding, has_fields, annotated, Pfs, no_pat_fields, pat_field, Ex, node, Fo, bound, top, foreign, basis, fold_over, number, text, built, fn, fn_con, fn_guard, call, let_in, case_of, ascribed, fields_of, select, concat, without, without_row, folder, element, Its, no_items, with_term, with_con, with_guard, Nms, no_named, named, Los, no_locals, local_val, local_rec, Brs, no_branches, branch, Fds, no_fields, field, El, tagged, Ats, no_attributes, attribute, Xs, no_nodes, a_node, It, a_term, a_con, a_guard, Lo, a_val, a_rec, Cd, Dt, De, val, vals, con_is, datatype, Ru, Pg}
 use Rattle.core_terms.specs.declared.markup.AttrName.{AttrName}
 use Rattle.core_terms.specs.declared.pat.Pat.{Pat}
 use Rattle.core_terms.specs.declared.pat.PatForm.{PatForm}
@@ -142,6 +142,7 @@ form_step (Form-F.FnGuard c d e) = fn_guard (con_tree c) (con_tree d) e.value
 form_step (Form-F.Call f is) = call f.value is
 form_step (Form-F.Let ls e) = let_in ls e.value
 form_step (Form-F.Case e b bs) = case_of e.value b.value.0 b.value.1 b.value.2 bs
+form_step (Form-F.Typed e t) = ascribed e.value (con_tree t)
 form_step (Form-F.Rec fs) = fields_of fs
 form_step (Form-F.Proj e c) = select e.value (con_tree c)
 form_step (Form-F.Cat e d) = concat e.value d.value

@@ -48,6 +48,8 @@ pub enum Form {
     Let(Locals, Box<Exp>),
     /// `case e of p => e | ..`
     Case(Box<Exp>, Box<Branch>, Branches),
+    /// `(e : t)`
+    Typed(Box<Exp>, Con),
     /// `{c = e, ..}`
     Rec(Fields),
     /// `e.c`

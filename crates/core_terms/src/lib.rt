@@ -4,6 +4,7 @@
 //! The definitions stand in `specs/`; each file is one subject.
 #![tactic(auto)]
 
+pub mod accepted;
 pub mod basis;
 pub mod decl;
 pub mod exp;
@@ -11,6 +12,7 @@ pub mod markup;
 pub mod pat;
 pub mod program;
 
+pub use accepted::Accepted;
 pub use basis::BasisName;
 pub use decl::{Constructor, Constructors, Datatype, Decl, Decls};
 pub use exp::{
