@@ -1,5 +1,16 @@
 pub mod CommentSteps
 pub mod Choices
+pub mod Best
+pub mod Settled
+pub mod Fronts
+pub mod Ends
+pub mod Meaning
+pub mod SomeReading
+pub mod Runs
+pub mod Symbols
+pub mod OneReading
+pub mod Readings
+pub mod Told
 pub mod RunSteps
 pub mod StringSteps
 pub mod EntitySteps

@@ -10,3 +10,4 @@ pub mod Results
 pub mod Code
 pub mod Markup
 pub mod Ahead
+pub mod Lexing

@@ -6,6 +6,7 @@ pub mod code;
 pub mod comments;
 pub mod entities;
 pub mod fault;
+pub mod laws;
 pub mod lexer;
 pub mod lookups;
 pub mod markup;

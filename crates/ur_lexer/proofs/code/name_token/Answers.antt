@@ -1,0 +1,8 @@
+use Rattle.std.proofs.Common.{◌≡◌, ap, ◌∙◌, List, ℕ}
+use Rattle.std.specs.List.{prefix_len}
+use Rattle.ur_lexer.specs.Bytes.{has}
+use Rattle.ur_lexer.proofs.Cuts.{cut_narrow}
+use Rattle.ur_lexer.proofs.code.name_token.Goals as goal
+
+pub spelling-requires : goal.spelling-requires
+spelling-requires c = cut_narrow c.args.class c.args.text.now c.run_len-len.result (cc) c.utf8.text c.requires
