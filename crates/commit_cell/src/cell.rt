@@ -19,8 +19,12 @@ use std::sync::Wait;
 /// How often the turn is looked at before a thread sleeps for it.
 const LOOKS: u32 = 100;
 
-// The turn's word while others may sleep for it.
-const CROWDED: u32 = 2;
+// The turn's word: free, taken, or taken while others may sleep for it.
+const FREE: u64 = 0;
+
+const TAKEN: u64 = 1;
+
+const CROWDED: u64 = 2;
 
 /// The shared value.
 #[derive(Drop)]
@@ -123,12 +127,12 @@ impl<S: Replays> Cell<S> {
         if let Some(turn) = self.take_awake(pass) {
             return turn;
         }
-        // From here on the word is left at 2, since others may sleep that this thread was woken before.
+        // From here on the word is left crowded, since others may sleep that this thread was woken before.
         for _ in rt.forever() {
             if let Some(turn) = self.try_take(pass, Asker::Sleeps) {
                 return turn;
             }
-            self.table.shared.park(rt, 0, CROWDED);
+            self.table.shared.park(rt, 0, CROWDED as u32);
             self.look();
         }
         unreachable!()
@@ -184,7 +188,7 @@ impl<S: Replays> Cell<S> {
     // Looks for a while, until the turn is free.
     fn look(&self) {
         for _ in 0..LOOKS {
-            if self.table.shared.peek(0) == 0 {
+            if self.table.shared.peek(0) == FREE {
                 return;
             }
             spin_loop();
@@ -197,7 +201,7 @@ impl<S: Replays> Cell<S> {
         ensures some { IfSome result (λ t. TakesTurn S.number S.serial S.stands self.now pass.old pass.new t) }
         ensures none { IfNone result (StaysFree self.now pass.old pass.new) }
     {
-        if self.ask(&mut pass.seat, asker) != 0 {
+        if self.ask(&mut pass.seat, asker) != FREE {
             return None;
         }
         let value = self.table.shared.exchange(&mut pass.seat, 0, None).unwrap();
@@ -215,8 +219,8 @@ impl<S: Replays> Cell<S> {
     {
         let shared = &self.table.shared;
         match asker {
-            Asker::Passes => shared.compare_exchange::<Take<S>>(seat, 0, 0, 1),
-            Asker::Sleeps => shared.swap::<Take<S>>(seat, 0, 2),
+            Asker::Passes => shared.compare_exchange::<Take<S>>(seat, 0, FREE, TAKEN),
+            Asker::Sleeps => shared.swap::<Take<S>>(seat, 0, CROWDED),
         }
     }
 
@@ -232,7 +236,7 @@ impl<S: Replays> Cell<S> {
     {
         let shared = &self.table.shared;
         drop(shared.exchange(seat, 0, Some(value)));
-        if shared.swap::<Give<S, N>>(seat, 0, 0) == 2 {
+        if shared.swap::<Give<S, N>>(seat, 0, FREE) == CROWDED {
             shared.wake_one(0);
         }
     }

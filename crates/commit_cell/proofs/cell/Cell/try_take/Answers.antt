@@ -4,5 +4,5 @@ use Rattle.commit_cell.proofs.cell.Cell.try_take.Goals as goal
 
 pub exchange-requires : goal.exchange-requires
 exchange-requires g c =
-    let t = c.ask.ensures.free c.if-ask-ne0.false in
+    let t = c.ask.ensures.free c.if-ask-ne-FREE.false in
     (search rules, (Some t.0, took_list _ _ _ (ap (λ m. m.1) t.2)))
