@@ -6,3 +6,4 @@ pub mod Moves
 pub mod Steps
 pub mod Bodies
 pub mod Modules
+pub mod Unique

@@ -1,11 +1,11 @@
 -- The reading of the small form as a computation: what stands at the front of tokens, and what the reading of nodes does next.
-use Rattle.std.specs.Prelude.{◌≡◌, ℕ, suc, Bool, if◌then◌else◌, List, [], ◌∷◌, length, nat_lt, codes, unwrap_or, Option, Some, None, Result, Ok, Err}
+use Rattle.std.specs.Prelude.{◌≡◌, ℕ, suc, Bool, true, false, if◌then◌else◌, List, [], ◌∷◌, length, nat_lt, codes, unwrap_or, Option, Some, None, Result, Ok, Err}
 use Rattle.std.specs.Option.{option_and_then, option_map, option_map_or}
 use Rattle.std.specs.Str.{bytes_eq}
 use denote.Enum.Bare.{sameb}
 use Rattle.surface_tree.specs.contracts.kind.Kind.{the_type}
 use Rattle.surface_tree.specs.declared.kind.Kind.{Kind}
-use Rattle.surface_tree.specs.declared.kind.Kind.TheVariants.{KeywordFun, LowerName, LeftParenthesis, RightParenthesis, Colon, EqualSign, XmlOpen, TagOpen, TagClose, GreaterThan, TagSelfClose, AttributeName, TextRun, StringLiteral, LeftBrace, RightBrace, LeftBracket, RightBracket}
+use Rattle.surface_tree.specs.declared.kind.Kind.TheVariants.{KeywordFun, LowerName, LeftParenthesis, RightParenthesis, Colon, EqualSign, XmlOpen, TagOpen, TagClose, GreaterThan, TagSelfClose, XmlClose, AttributeName, TextRun, StringLiteral, LeftBrace, RightBrace, LeftBracket, RightBracket}
 use Rattle.xml_trees.specs.declared.name.Name.{Name}
 use Rattle.xml_trees.specs.declared.tag.Tag.{Tag}
 use Rattle.xml_trees.specs.declared.tag.Tag.TheVariants.{P, Div, Span, B, I, Em, Strong, H1, H2, H3, H4, Ul, Ol, Li, Code, Blockquote, Br, Hr}
@@ -74,6 +74,15 @@ after_body words =
 -- a module up to its nodes
 abbrev pub after_opening : List Word → Option (List Word)
 after_opening words = option_and_then (λ rest. after_body (unwrap_or (after_type rest) rest)) (after_main words)
+
+-- no words are left
+abbrev pub is_end : List Word → Bool
+is_end [] = true
+is_end (word ∷ words) = false
+
+-- `</xml>`, and no more
+abbrev pub ends_page : List Word → Bool
+ends_page words = option_map_or is_end (after XmlClose words) false
 
 -- the string of `[ string ] }`, and the words behind it
 abbrev pub splice : List Word → Option (List ℕ × List Word)

@@ -137,6 +137,10 @@ IsSmall tokens m = AreNodes (body_of m) × (words_of tokens ≡ spell_module m)
 abbrev pub IsNoSmall : List Token → Type 0
 IsNoSmall tokens = (m : Module) → IsSmall tokens m → ⊥
 
+-- tokens are those of one module at most
+abbrev pub SmallModulesAreUnique : Type 0
+SmallModulesAreUnique = (tokens : List Token) (m n : Module) → IsSmall tokens m → IsSmall tokens n → m ≡ n
+
 -- the words are nodes, the end of the body, and then `after`
 abbrev pub IsBody : List Word → Nodes → List Word → Type 0
 IsBody words nodes after = AreNodes nodes × (words ≡ spell_nodes nodes (closing Body ∷ after))

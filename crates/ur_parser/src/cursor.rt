@@ -30,7 +30,8 @@ pub fn after(kind: Kind, tokens: &[Token]) -> Option<&[Token]>
 
 /// The characters that a token of this kind holds, and the tokens behind it.
 pub fn held(kind: Kind, tokens: &[Token]) -> Option<(&Text, &[Token])>
-    ensures found { option_map (λ x. (x.0.now, words_of x.1.now)) result ≡ held kind (words_of tokens.now) }
+    ensures found { option_map (λ x. (x.0.now, words_of x.1.now)) result
+        ≡ held kind (words_of tokens.now) }
     ensures fewer { IfSome result (λ x. length x.1.now < length tokens.now) }
 {
     let [first, rest @ ..] = tokens else {
@@ -44,7 +45,8 @@ pub fn held(kind: Kind, tokens: &[Token]) -> Option<(&Text, &[Token])>
 
 /// The tokens behind a token of this kind that holds this name.
 pub fn after_named<'a>(kind: Kind, name: &str, tokens: &'a [Token]) -> Option<&'a [Token]>
-    ensures found { option_map words_of (option_copied result) ≡ after_named kind name.now (words_of tokens.now) }
+    ensures found { option_map words_of (option_copied result)
+        ≡ after_named kind name.now (words_of tokens.now) }
     ensures fewer { IfSome result (λ rest. length rest.now < length tokens.now) }
 {
     let (found, rest) = held(kind, tokens)?;

@@ -2,7 +2,7 @@
 ghost use Rattle.std.specs.Prelude.{◌≡◌, ◌<◌, ◌≤◌, length, IfSome};
 ghost use Rattle.std.specs.Option.{option_copied, option_map};
 ghost use Rattle.ur_parser.specs.Words.{words_of};
-ghost use Rattle.ur_parser.specs.Reading.{after_main, after_type, after_body, after_opening, splice, braced, title_text, title};
+ghost use Rattle.ur_parser.specs.Reading.{after_main, after_type, after_body, after_opening, ends_page, splice, braced, title_text, title};
 
 use crate::cursor::{after, after_named, held};
 use surface_tree::{Kind, Token};
@@ -50,9 +50,21 @@ pub fn after_opening(tokens: &[Token]) -> Option<&[Token]>
     after_body(rest)
 }
 
+/// Whether the tokens are the `</xml>` that ends a module, and no more.
+#[tactic(auto, using(crate::proofs::Modules::is_end_by_length))]
+pub fn ends_page(tokens: &[Token]) -> bool
+    ensures { result ≡ ends_page (words_of tokens.now) }
+{
+    match after(Kind::XmlClose, tokens) {
+        Some(rest) => rest.is_empty(),
+        None => false,
+    }
+}
+
 /// The string of `[ string ] }`.
 pub fn splice(tokens: &[Token]) -> Found<'_>
-    ensures found { option_map (λ x. (x.0.now, words_of x.1.now)) result ≡ splice (words_of tokens.now) }
+    ensures found { option_map (λ x. (x.0.now, words_of x.1.now)) result
+        ≡ splice (words_of tokens.now) }
     ensures fewer { IfSome result (λ x. length x.1.now < length tokens.now) }
 {
     let rest = after(Kind::LeftBracket, tokens)?;
@@ -64,7 +76,8 @@ pub fn splice(tokens: &[Token]) -> Found<'_>
 
 /// The string of `{ string }`.
 fn braced(tokens: &[Token]) -> Found<'_>
-    ensures found { option_map (λ x. (x.0.now, words_of x.1.now)) result ≡ braced (words_of tokens.now) }
+    ensures found { option_map (λ x. (x.0.now, words_of x.1.now)) result
+        ≡ braced (words_of tokens.now) }
     ensures fewer { IfSome result (λ x. length x.1.now < length tokens.now) }
 {
     let rest = after(Kind::LeftBrace, tokens)?;
@@ -75,7 +88,8 @@ fn braced(tokens: &[Token]) -> Found<'_>
 
 /// The string of `string` or `{ string }`.
 fn title_text(tokens: &[Token]) -> Found<'_>
-    ensures found { option_map (λ x. (x.0.now, words_of x.1.now)) result ≡ title_text (words_of tokens.now) }
+    ensures found { option_map (λ x. (x.0.now, words_of x.1.now)) result
+        ≡ title_text (words_of tokens.now) }
     ensures fewer { IfSome result (λ x. length x.1.now < length tokens.now) }
 {
     match held(Kind::StringLiteral, tokens) {
@@ -86,7 +100,8 @@ fn title_text(tokens: &[Token]) -> Found<'_>
 
 /// The text of `title = ..`, where this attribute stands; `None` where another stands.
 pub fn title(tokens: &[Token]) -> Option<(Option<&Text>, &[Token])>
-    ensures found { option_map (λ x. (option_copied x.0, words_of x.1.now)) result ≡ title (words_of tokens.now) }
+    ensures found { option_map (λ x. (option_copied x.0, words_of x.1.now)) result
+        ≡ title (words_of tokens.now) }
     ensures fewer { IfSome result (λ x. length x.1.now ≤ length tokens.now) }
 {
     match held(Kind::AttributeName, tokens) {

@@ -1,13 +1,14 @@
 //! The readers of tokens: what a module says, as a tree or as the page that it returns.
 #![tactic(auto)]
 
-pub mod cursor;
+mod cursor;
 pub mod fault;
-pub mod front;
-pub mod nodes;
-pub mod open_names;
+mod front;
+pub mod laws;
+mod nodes;
+mod open_names;
 pub mod small;
-pub mod tags;
+mod tags;
 #[cfg(test)]
 mod tests;
 

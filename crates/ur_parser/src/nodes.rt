@@ -67,7 +67,8 @@ impl Reader {
         tag: Tag,
         tokens: &'a [Token],
     ) -> Result<&'a [Token], SmallFault>
-        ensures step { Gives (λ rest. (self.new.names, built self.new.page, words_of rest.now)) result (void self.old.names (built self.old.page) tag (words_of tokens.now)) }
+        ensures step { Gives (λ rest. (self.new.names, built self.new.page, words_of rest.now)) result
+            (void self.old.names (built self.old.page) tag (words_of tokens.now)) }
         ensures fewer { IfOk result (λ rest. length rest.now < length tokens.now) }
     {
         let Some(rest) = after(Kind::TagSelfClose, tokens) else {
@@ -84,7 +85,8 @@ impl Reader {
         attrs: Attrs,
         tokens: &'a [Token],
     ) -> Result<&'a [Token], SmallFault>
-        ensures step { Gives (λ rest. (self.new.names, built self.new.page, words_of rest.now)) result (filled self.old.names (built self.old.page) tag attrs (words_of tokens.now)) }
+        ensures step { Gives (λ rest. (self.new.names, built self.new.page, words_of rest.now)) result
+            (filled self.old.names (built self.old.page) tag attrs (words_of tokens.now)) }
         ensures fewer { IfOk result (λ rest. length rest.now < length tokens.now) }
     {
         match after(Kind::GreaterThan, tokens) {
@@ -110,7 +112,8 @@ impl Reader {
         tag: Tag,
         tokens: &'a [Token],
     ) -> Result<&'a [Token], SmallFault>
-        ensures step { Gives (λ rest. (self.new.names, built self.new.page, words_of rest.now)) result (element self.old.names (built self.old.page) tag (words_of tokens.now)) }
+        ensures step { Gives (λ rest. (self.new.names, built self.new.page, words_of rest.now)) result
+            (element self.old.names (built self.old.page) tag (words_of tokens.now)) }
         ensures fewer { IfOk result (λ rest. length rest.now < length tokens.now) }
     {
         let Some((title, rest)) = title(tokens) else {
@@ -127,7 +130,8 @@ impl Reader {
         name: &Text,
         tokens: &'a [Token],
     ) -> Result<&'a [Token], SmallFault>
-        ensures step { Gives (λ rest. (self.new.names, built self.new.page, words_of rest.now)) result (begun self.old.names (built self.old.page) name.now (words_of tokens.now)) }
+        ensures step { Gives (λ rest. (self.new.names, built self.new.page, words_of rest.now)) result
+            (begun self.old.names (built self.old.page) name.now (words_of tokens.now)) }
         ensures fewer { IfOk result (λ rest. length rest.now < length tokens.now) }
     {
         if self.names.len() > MOST_OPEN {
@@ -146,7 +150,8 @@ impl Reader {
     /// The innermost element ends, if it has this name.
     fn close<'a>(&mut self, name: &Text, rest: &'a [Token]) -> Result<&'a [Token], SmallFault>
         requires { open_count (built self.old.page) ≡ length self.old.names }
-        ensures step { Gives (λ rest. (self.new.names, built self.new.page, words_of rest.now)) result (closed self.old.names (built self.old.page) name.now (words_of rest.now)) }
+        ensures step { Gives (λ rest. (self.new.names, built self.new.page, words_of rest.now)) result
+            (closed self.old.names (built self.old.page) name.now (words_of rest.now)) }
         ensures rest { IfOk result (λ left. left.now ≡ rest.now) }
     {
         let Some(innermost) = self.names.pop() else {
@@ -168,7 +173,8 @@ impl Reader {
         rest: &'a [Token],
     ) -> Result<&'a [Token], SmallFault>
         requires { open_count (built self.old.page) ≡ length self.old.names }
-        ensures step { Gives (λ rest. (self.new.names, built self.new.page, words_of rest.now)) result (step self.old.names (built self.old.page) (Holding kind text.now ∷ words_of rest.now)) }
+        ensures step { Gives (λ rest. (self.new.names, built self.new.page, words_of rest.now)) result
+            (step self.old.names (built self.old.page) (Holding kind text.now ∷ words_of rest.now)) }
         ensures fewer { IfOk result (λ left. length left.now ≤ length rest.now) }
     {
         if same_kind(kind, Kind::TextRun) {
@@ -189,13 +195,14 @@ impl Reader {
         alloc: Global,
         tokens: &'a [Token],
     ) -> Result<&'a [Token], SmallFault>
-        ensures step { Gives (λ rest. (self.new.names, built self.new.page, words_of rest.now)) result (spliced self.old.names (built self.old.page) (words_of tokens.now)) }
+        ensures step { Gives (λ rest. (self.new.names, built self.new.page, words_of rest.now)) result
+            (spliced self.old.names (built self.old.page) (words_of tokens.now)) }
         ensures fewer { IfOk result (λ rest. length rest.now < length tokens.now) }
     {
-        let Some((text, rest)) = splice(tokens) else {
+        let Some((string, rest)) = splice(tokens) else {
             return Err(SmallFault::NotBuilt);
         };
-        self.page.words(alloc, text)?;
+        self.page.words(alloc, string)?;
         Ok(rest)
     }
 
@@ -206,7 +213,8 @@ impl Reader {
         tokens: &'a [Token],
     ) -> Result<&'a [Token], SmallFault>
         requires { open_count (built self.old.page) ≡ length self.old.names }
-        ensures step { Gives (λ rest. (self.new.names, built self.new.page, words_of rest.now)) result (step self.old.names (built self.old.page) (words_of tokens.now)) }
+        ensures step { Gives (λ rest. (self.new.names, built self.new.page, words_of rest.now)) result
+            (step self.old.names (built self.old.page) (words_of tokens.now)) }
         ensures fewer { IfOk result (λ rest. length rest.now < length tokens.now) }
     {
         let [first, rest @ ..] = tokens else {
@@ -214,9 +222,9 @@ impl Reader {
         };
         match &first.content {
             Content::Characters(text) => self.read_holding(alloc, first.kind, text, rest),
-            Content::Nothing if same_kind(first.kind, Kind::LeftBrace) => self.read_splice(
-                alloc, rest,
-            ),
+            Content::Nothing if same_kind(first.kind, Kind::LeftBrace) => {
+                self.read_splice(alloc, rest)
+            }
             _ => Err(SmallFault::NotBuilt),
         }
     }
@@ -224,9 +232,12 @@ impl Reader {
 
 /// The page of a body's nodes, and the tokens behind the body.
 pub fn body(alloc: Global, tokens: &[Token]) -> Result<(Page, &[Token]), SmallFault>
-    ensures found { IfOk result (λ x. (nodes : Nodes) × IsBody (words_of tokens.now) nodes (words_of x.1.now) × (built x.0 ≡ Whole (body_tree nodes))) }
-    ensures only { IfOk result (λ x. (nodes : Nodes) (rest : List Word) → IsBody (words_of tokens.now) nodes rest → rest ≡ words_of x.1.now) }
-    ensures not_built { IsErrOf result SmallFault.NotBuilt → (nodes : Nodes) (rest : List Word) → IsBody (words_of tokens.now) nodes rest → ⊥ }
+    ensures found { IfOk result (λ x. (nodes : Nodes) × IsBody (words_of tokens.now) nodes (words_of x.1.now)
+        × (built x.0 ≡ Whole (body_tree nodes))) }
+    ensures only { IfOk result (λ x. (nodes : Nodes) (rest : List Word)
+        → IsBody (words_of tokens.now) nodes rest → rest ≡ words_of x.1.now) }
+    ensures not_built { IsErrOf result SmallFault.NotBuilt → (nodes : Nodes) (rest : List Word)
+        → IsBody (words_of tokens.now) nodes rest → ⊥ }
 {
     let mut reader = Reader::new(alloc)?;
     let mut rest = tokens;

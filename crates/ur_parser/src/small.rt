@@ -5,11 +5,10 @@ ghost use Rattle.ur_parser.specs.Small.{Module, IsSmall, IsNoSmall, longest};
 ghost use Rattle.ur_parser.specs.Pages.{page_of};
 
 use crate::SmallFault;
-use crate::cursor::after;
-use crate::front::after_opening;
+use crate::front::{after_opening, ends_page};
 use crate::nodes::body;
 use std::alloc::Global;
-use surface_tree::{Kind, Token, Tokens};
+use surface_tree::{Token, Tokens};
 use xml_trees::Page;
 
 /// The longest text that is read, in bytes.
@@ -23,17 +22,15 @@ pub struct Small {
 
 /// The page of a module's tokens.
 fn module_page(alloc: Global, tokens: &[Token]) -> Result<Page, SmallFault>
-    ensures found { IfOk result (λ page. (m : Module) × IsSmall tokens.now m × (built page ≡ Whole (page_of m))) }
+    ensures found { IfOk result (λ page. (m : Module) × IsSmall tokens.now m
+        × (built page ≡ Whole (page_of m))) }
     ensures not_built { IsErrOf result SmallFault.NotBuilt → IsNoSmall tokens.now }
 {
     let Some(nodes) = after_opening(tokens) else {
         return Err(SmallFault::NotBuilt);
     };
     let (page, rest) = body(alloc, nodes)?;
-    let Some(behind) = after(Kind::XmlClose, rest) else {
-        return Err(SmallFault::NotBuilt);
-    };
-    if !behind.is_empty() {
+    if !ends_page(rest) {
         return Err(SmallFault::NotBuilt);
     }
     Ok(page)
@@ -42,12 +39,16 @@ fn module_page(alloc: Global, tokens: &[Token]) -> Result<Page, SmallFault>
 /// Reads the tokens of a module of the small form, whose text has at most 65,536 bytes.
 pub fn read_small(alloc: Global, tokens: &Tokens) -> Result<Small, SmallFault>
     // What is read: the page of a module of the small form that the tokens spell.
-    ensures found { IfOk result (λ small. (m : Module) × IsSmall tokens.now.items m × (built small.page ≡ Whole (page_of m))) }
+    ensures found { IfOk result (λ small. (m : Module) × IsSmall tokens.now.items m
+        × (built small.page ≡ Whole (page_of m))) }
     ensures short { OnOk result (tokens.now.end ≤ longest) }
 
-    // What is refused: a text that is too long, or that is no module of the small form, and nothing else but for want of memory.
-    ensures not_built { IsErrOf result SmallFault.NotBuilt → (longest < tokens.now.end) ⊎ IsNoSmall tokens.now.items }
-    ensures read { tokens.now.end ≤ longest → (m : Module) → IsSmall tokens.now.items m → IsOkUnless result SmallFault.Memory }
+    // What is refused: a text that is too long, or that is no module of the small form. Such a
+    // module is read, unless memory runs out.
+    ensures not_built { IsErrOf result SmallFault.NotBuilt
+        → (longest < tokens.now.end) ⊎ IsNoSmall tokens.now.items }
+    ensures read { tokens.now.end ≤ longest → (m : Module) → IsSmall tokens.now.items m
+        → IsOkUnless result SmallFault.Memory }
 {
     if tokens.end() > LONGEST {
         return Err(SmallFault::NotBuilt);
