@@ -23,3 +23,9 @@ pub mod Targets
 pub mod Entries
 pub mod Accepts
 pub mod Requests
+pub mod Faults
+pub mod Compared
+pub mod PatternFaults
+pub mod Found
+pub mod Own
+pub mod Tells
