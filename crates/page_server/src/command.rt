@@ -1,13 +1,15 @@
 //! The top call.
 ghost use Rattle.std.specs.Prelude.{◌≡◌, ◌≤◌, ◌<◌, ◌↔◌, ℕ, List, length, map, string_bytes, IfOk, OnOk, OnErr, IsErrOf, IsTrue, ◌⊎◌, Some};
-ghost use Rattle.std.specs.Io.KnownBytes.{Appends};
+ghost use Rattle.std.specs.Io.KnownBytes.{Appends, Keeps};
 ghost use Rattle.xml_trees.specs.Trees.{Trees, IsWhole, built, trees_of};
 ghost use Rattle.xml_trees.specs.Written.{written};
-ghost use Rattle.xml_trees.specs.Grammar.{IsPage};
+ghost use Rattle.page_bytes.specs.Pages.{WritesPage, WritesFront};
 ghost use Rattle.ur_outside.specs.Causes.{Rose};
+ghost use Rattle.ur_outside.specs.Whole.{AppendsFront};
 ghost use Rattle.page_server.specs.Lines.{line_of, usage};
-ghost use Rattle.page_server.specs.Top.{IsPageCommand, PageIsWritten, RefusalIsWritten, IsToldPage};
+ghost use Rattle.page_server.specs.Top.{IsPageCommand, PageIsWritten, RefusalIsWritten, FrontIsWritten, IsToldPage};
 
+use crate::module::LONGEST;
 use crate::{ModuleFault, page_of};
 use page_bytes::write_page;
 use std::alloc::{AllocError, Global};
@@ -25,7 +27,7 @@ const USAGE: &[u8] =
     b"usage: urweb page | check DIR | explicit DIR | run DIR | serve DIR ADDR | load SEED\n";
 
 /// One more than the most bytes that a module has, so that a longer one shows.
-const ENOUGH: usize = 4194305;
+const ENOUGH: usize = LONGEST + 1;
 
 fn is_page_command(words: &[String]) -> bool
     ensures { IsTrue result ↔ IsPageCommand (map string_bytes words.now) }
@@ -40,6 +42,7 @@ fn is_page_command(words: &[String]) -> bool
 fn end_with<O: Sink>(output: &mut O, piece: &[u8], status: u8) -> Ended
     requires { status < 3 }
     ensures written { result.status ≡ status → Appends (O.wrote output.old) (O.wrote output.new) piece.now }
+    ensures front { result.status ≡ 4 → AppendsFront (O.wrote output.old) (O.wrote output.new) piece.now }
     ensures other { result.status ≡ status ⊎ (result.status ≡ 4) }
     ensures failed { result.status ≡ 4 → Rose (O.faults output.old) (O.faults output.new) }
 {
@@ -52,7 +55,8 @@ fn end_with<O: Sink>(output: &mut O, piece: &[u8], status: u8) -> Ended
 /// Ends with the page.
 fn end_with_page<O: Sink>(output: &mut O, page: &Page) -> Ended
     requires { IsWhole (built page.now) }
-    ensures written { result.status ≡ 0 → (bytes : List ℕ) × IsPage bytes (written (trees_of (built page.now))) × Appends (O.wrote output.old) (O.wrote output.new) bytes }
+    ensures written { result.status ≡ 0 → WritesPage (O.wrote output.old) (O.wrote output.new) (written (trees_of (built page.now))) }
+    ensures front { result.status ≡ 4 → WritesFront (O.wrote output.old) (O.wrote output.new) (written (trees_of (built page.now))) }
     ensures other { (result.status ≡ 0) ⊎ (result.status ≡ 4) }
     ensures failed { result.status ≡ 4 → Rose (O.faults output.old) (O.faults output.new) }
 {
@@ -65,6 +69,8 @@ fn end_with_page<O: Sink>(output: &mut O, page: &Page) -> Ended
 /// Ends with the line of the refusal.
 fn end_refused<O: Sink>(alloc: Global, output: &mut O, fault: &ModuleFault) -> Ended
     ensures written { result.status ≡ 1 → (line : List ℕ) × (line_of fault.now ≡ Some line) × Appends (O.wrote output.old) (O.wrote output.new) line }
+    ensures front { result.status ≡ 4 → (line : List ℕ) × (line_of fault.now ≡ Some line) × AppendsFront (O.wrote output.old) (O.wrote output.new) line }
+    ensures kept { result.status ≡ 5 → Keeps (O.wrote output.old) (O.wrote output.new) }
     ensures other { (result.status ≡ 1) ⊎ (result.status ≡ 4) ⊎ (result.status ≡ 5) }
     ensures failed { result.status ≡ 4 → Rose (O.faults output.old) (O.faults output.new) }
 {
@@ -80,6 +86,8 @@ fn end_page<I: Source, O: Sink>(alloc: Global, input: &mut I, output: &mut O) ->
     ensures page { result.status ≡ 0 → PageIsWritten (I.left input.old) (I.left input.new) (O.wrote output.old) (O.wrote output.new) }
     ensures refused { result.status ≡ 1 → RefusalIsWritten (I.left input.old) (O.wrote output.old) (O.wrote output.new) }
     ensures complete { IsToldPage (I.left input.old) → result.status ≡ 1 → ⊥ }
+    ensures kept { (result.status ≡ 3) ⊎ (result.status ≡ 5) → Keeps (O.wrote output.old) (O.wrote output.new) }
+    ensures front { result.status ≡ 4 → FrontIsWritten (I.left input.old) (O.wrote output.old) (O.wrote output.new) }
     ensures read_failed { result.status ≡ 3 → Rose (I.faults input.old) (I.faults input.new) }
     ensures write_failed { result.status ≡ 4 → Rose (O.faults output.old) (O.faults output.new) }
 {
@@ -116,6 +124,13 @@ pub fn top<I: Source, O: Sink>(alloc: Global, words: &[String], line: &mut Joine
     // Reading or writing failed.
     ensures read_failed { result.status ≡ 3 → Rose (I.faults line.old.input) (I.faults line.new.input) }
     ensures write_failed { result.status ≡ 4 → Rose (O.faults line.old.output) (O.faults line.new.output) }
+
+    // What a failure leaves: nothing was written, or a front of the answer.
+    ensures kept { (result.status ≡ 3) ⊎ (result.status ≡ 5) → Keeps (O.wrote line.old.output) (O.wrote line.new.output) }
+    ensures front { result.status ≡ 4 → IsPageCommand (map string_bytes words.now)
+        → FrontIsWritten (I.left line.old.input) (O.wrote line.old.output) (O.wrote line.new.output) }
+    ensures usage_front { result.status ≡ 4 → (IsPageCommand (map string_bytes words.now) → ⊥)
+        → AppendsFront (O.wrote line.old.output) (O.wrote line.new.output) usage }
 
     // What has a page is written, unless the outside failed or memory ran out.
     ensures complete { IsPageCommand (map string_bytes words.now) → IsToldPage (I.left line.old.input)

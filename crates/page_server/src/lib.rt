@@ -4,6 +4,8 @@
 pub mod command;
 pub mod module;
 pub mod refusal;
+#[cfg(test)]
+mod tests;
 
 pub use command::{Ended, top};
 pub use module::page_of;

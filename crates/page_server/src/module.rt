@@ -1,5 +1,5 @@
 //! From the bytes of a module to its page.
-ghost use Rattle.std.specs.Prelude.{◌≡◌, ◌⊎◌, IfOk, IfErr, IsOk, Err};
+ghost use Rattle.std.specs.Prelude.{◌≡◌, IfOk, IfErr, IsOkUnless};
 ghost use Rattle.xml_trees.specs.Trees.{Trees, IsWhole, built, trees_of};
 ghost use Rattle.page_server.specs.Modules.{HasPage, IsRefused};
 
@@ -18,7 +18,7 @@ pub fn page_of(alloc: Global, bytes: &[u8]) -> Result<Page, ModuleFault>
     ensures whole { IfOk result (λ page. IsWhole (built page)) }
     ensures page { IfOk result (λ page. HasPage bytes.now (trees_of (built page))) }
     ensures refused { IfErr result (IsRefused bytes.now) }
-    ensures complete { (trees : Trees) → HasPage bytes.now trees → IsOk result ⊎ (result ≡ Err ModuleFault.Memory) }
+    ensures complete { (trees : Trees) → HasPage bytes.now trees → IsOkUnless result ModuleFault.Memory }
 {
     if bytes.len() > LONGEST {
         return Err(ModuleFault::FileTooLong);

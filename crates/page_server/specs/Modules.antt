@@ -1,0 +1,58 @@
+-- Which modules have a page, and which are refused.
+use Rattle.std.specs.Prelude.{◌≡◌, ℕ, ◌<◌, ◌≤◌, ◌⊎◌, List, length}
+use Rattle.std.specs.Str.{IsUtf8}
+use Rattle.surface_tree.specs.TokenList.{TokenList}
+use Rattle.xml_trees.specs.Trees.{Trees}
+use Rattle.ur_lexer.specs.Lexing.{Lexes, Faults}
+use Rattle.ur_lexer.specs.declared.fault.LexFault.{LexFault}
+use Rattle.ur_lexer.specs.declared.fault.LexFault.TheVariants as lexer
+use Rattle.ur_parser.specs.Small.{Module, IsSmall, IsNoSmall, longest as longest_small}
+use Rattle.ur_parser.specs.Pages.{page_of}
+use Rattle.ur_parser.specs.declared.fault.SmallFault.{SmallFault}
+use Rattle.ur_parser.specs.declared.fault.SmallFault.TheVariants as reader
+use Rattle.page_server.specs.declared.refusal.ModuleFault.{ModuleFault}
+use Rattle.page_server.specs.declared.refusal.ModuleFault.TheVariants.{FileTooLong, NotUtf8, BadChar, OpenText, OpenComment, IntTooLarge, NotBuilt, Memory}
+
+-- a fault of the lexer as a refusal
+abbrev pub lexical : LexFault → ModuleFault
+lexical (lexer.BadChar at) = BadChar at
+lexical (lexer.OpenText at) = OpenText at
+lexical (lexer.OpenComment at) = OpenComment at
+lexical (lexer.IntTooLarge at) = IntTooLarge at
+lexical lexer.Memory = Memory
+
+-- a fault of the reader as a refusal
+abbrev pub unread : SmallFault → ModuleFault
+unread reader.NotBuilt = NotBuilt
+unread reader.Memory = Memory
+
+-- the most bytes that a module has
+abbrev pub longest : ℕ
+longest = 4194304
+
+-- the bytes are those of a text that isn't too long
+abbrev pub IsModule : List ℕ → Type 0
+IsModule bytes = (length bytes ≤ longest) × IsUtf8 bytes
+
+-- The module is cut into these tokens, they are those of a module of the small form, and this is the page that its
+-- `main` returns.
+abbrev pub HasPage : List ℕ → Trees → Type 0
+HasPage bytes trees =
+    IsModule bytes × (tokens : TokenList) × Lexes bytes tokens × (tokens.end ≤ longest_small)
+    × (m : Module) × IsSmall tokens.items m × (trees ≡ page_of m)
+
+-- The module is cut into tokens, and is too long for the small form or no module of it.
+abbrev pub HasNoForm : List ℕ → Type 0
+HasNoForm bytes =
+    (tokens : TokenList) × Lexes bytes tokens × ((longest_small < tokens.end) ⊎ IsNoSmall tokens.items)
+
+-- Why a module has no page; want of memory says nothing of it.
+abbrev pub IsRefused : List ℕ → ModuleFault → Type 0
+IsRefused bytes FileTooLong = longest < length bytes
+IsRefused bytes NotUtf8 = (length bytes ≤ longest) × ¬ (IsUtf8 bytes)
+IsRefused bytes (BadChar at) = IsModule bytes × Faults bytes (lexer.BadChar at)
+IsRefused bytes (OpenText at) = IsModule bytes × Faults bytes (lexer.OpenText at)
+IsRefused bytes (OpenComment at) = IsModule bytes × Faults bytes (lexer.OpenComment at)
+IsRefused bytes (IntTooLarge at) = IsModule bytes × Faults bytes (lexer.IntTooLarge at)
+IsRefused bytes NotBuilt = IsModule bytes × HasNoForm bytes
+IsRefused bytes Memory = Unit {0}

@@ -1,0 +1,89 @@
+//! Whole runs over an input and an output in memory.
+use crate::top;
+use std::alloc::{AllocError, Global};
+use ur_outside::{Joined, MemSink, MemSource};
+
+const MODULE: &[u8] = b"fun main () = return <xml><body></body></xml>";
+
+const PAGE: &[u8] = b"<!DOCTYPE html><html><body></body></html>";
+
+/// How the outside behaves: how much a call moves at most, and which calls fail.
+#[derive(Drop)]
+struct Outside<'a> {
+    read_most: usize,
+    failing_reads: &'a [u64],
+    write_most: usize,
+    failing_writes: &'a [u64],
+}
+
+/// A run of `page` over this input: its status and its output.
+fn run(alloc: Global, input: &[u8], outside: &Outside<'_>) -> Result<(u8, Vec<u8>), AllocError> {
+    let words = vec![in alloc; "page".to_string(alloc)?]?;
+    let mut line = Joined {
+        input: MemSource::new(
+            input.to_vec(alloc)?,
+            outside.read_most.max(1),
+            outside.failing_reads.to_vec(alloc)?,
+        ),
+        output: MemSink::new(
+            alloc,
+            outside.write_most,
+            outside.failing_writes.to_vec(alloc)?,
+        ),
+    };
+    let ended = top(alloc, &words, &mut line);
+    Ok((ended.status, line.output.written().to_vec(alloc)?))
+}
+
+/// An outside that never fails, and moves at most so much in a call.
+fn honest(most: usize) -> Outside<'static> {
+    Outside {
+        read_most: most,
+        failing_reads: &[],
+        write_most: most,
+        failing_writes: &[],
+    }
+}
+
+#[test]
+fn pieces_of_one_byte(rt: HostRuntime) -> Result<(), AllocError> {
+    let (status, output) = run(rt.alloc(), MODULE, &honest(1))?;
+    assert_eq!(rt; status, 0);
+    assert!(rt; output.as_slice() == PAGE);
+    Ok(())
+}
+
+#[test]
+fn reading_fails(rt: HostRuntime) -> Result<(), AllocError> {
+    let mut outside = honest(9);
+    outside.failing_reads = &[1];
+    let (status, output) = run(rt.alloc(), MODULE, &outside)?;
+    assert_eq!(rt; status, 3);
+    assert!(rt; output.is_empty());
+    Ok(())
+}
+
+#[test]
+fn writing_fails_or_takes_nothing(rt: HostRuntime) -> Result<(), AllocError> {
+    let mut outside = honest(9);
+    outside.failing_writes = &[0];
+    let (status, output) = run(rt.alloc(), MODULE, &outside)?;
+    assert_eq!(rt; status, 4);
+    assert!(rt; output.is_empty());
+    outside.failing_writes = &[2];
+    let (status, output) = run(rt.alloc(), MODULE, &outside)?;
+    assert_eq!(rt; status, 4);
+    assert!(rt; output.as_slice() == &PAGE[..18]);
+    outside.write_most = 0;
+    let (status, _) = run(rt.alloc(), MODULE, &outside)?;
+    assert_eq!(rt; status, 4);
+    Ok(())
+}
+
+#[test]
+fn refusals(rt: HostRuntime) -> Result<(), AllocError> {
+    let (status, output) = run(rt.alloc(), b"val x = \"a", &honest(9))?;
+    assert_eq!(rt; status, 1);
+    assert!(rt; output.as_slice() == b"Main.ur:8: OpenText\n".as_slice());
+    Ok(())
+}
