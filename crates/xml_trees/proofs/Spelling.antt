@@ -144,3 +144,9 @@ markup_of (Tagged name attributes inside rest) n =
           (_, Void name front.0 more.0 attributes rest n.0 v front.1 more.1)
       | inr v ↦ (_, Closed name front.0 held.0 more.0 attributes inside rest n.0 v front.1 held.1 more.1)
     ]
+
+-- what is computed for normal trees is a text of theirs
+pub is_markup : (t : Markup) → IsNormal t → IsMarkup (markup_then t []) t
+is_markup t n =
+    let some = markup_of t n in
+    subst (λ (l : List ℕ). IsMarkup l t) (sym (append-nil some.0) ∙ (markup_is some.0 t some.1).1 []) some.1

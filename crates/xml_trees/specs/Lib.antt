@@ -5,3 +5,4 @@ pub mod Markup
 pub mod Written
 pub mod Grammar
 pub mod PieceText
+pub mod Example

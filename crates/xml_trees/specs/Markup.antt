@@ -13,9 +13,11 @@ pub data Markup : Type 0 where
   Characters : List ℕ → Markup → Markup
   Tagged : List ℕ → List Attribute → Markup → Markup → Markup
 
+-- a small letter
 abbrev pub is_letter : ℕ → Bool
 is_letter c = nat_le 97 c && nat_le c 122
 
+-- a byte that stands in a name
 abbrev pub is_name_byte : ℕ → Bool
 is_name_byte c = is_letter c || (nat_le 48 c && nat_le c 57) || (c == 45) || (c == 95)
 
@@ -24,17 +26,19 @@ abbrev pub IsName : List ℕ → Type 0
 IsName [] = ⊥
 IsName (c ∷ cs) = IsTrue (is_letter c) × IsTrue (list_all is_name_byte cs)
 
+-- two lists of bytes are the same
 abbrev pub same_bytes : List ℕ → List ℕ → Bool
 same_bytes [] [] = true
 same_bytes [] (d ∷ ds) = false
 same_bytes (c ∷ cs) [] = false
 same_bytes (c ∷ cs) (d ∷ ds) = (c == d) && same_bytes cs ds
 
--- a tag of this name has neither content nor a closing tag
+-- a tag of this name has neither content nor a closing tag: a void element of HTML
 abbrev pub is_void : List ℕ → Bool
 is_void name =
     same_bytes name (codes "br") || same_bytes name (codes "hr") || same_bytes name (codes "img") || same_bytes name (codes "input")
 
+-- the first of these trees is no text
 abbrev pub BeginsNoText : Markup → Type 0
 BeginsNoText Empty = Unit {0}
 BeginsNoText (Characters text rest) = ⊥

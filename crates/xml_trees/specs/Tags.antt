@@ -1,4 +1,5 @@
 -- The tags of a page, and the names that they are written with.
+use Rattle.std.specs.Prelude.{Bool, true, false}
 use Rattle.xml_trees.specs.declared.name.Name.{Name}
 use Rattle.xml_trees.specs.declared.name.Name.TheVariants as name
 use Rattle.xml_trees.specs.declared.tag.Tag.{Tag}
@@ -39,3 +40,25 @@ name_of (Password field) = name.Input
 name_of (Hidden field) = name.Input
 name_of (Checkbox field) = name.Input
 name_of Submit = name.Input
+
+-- the tags that take text and one another, `br` and `hr`
+abbrev pub is_simple : Tag → Bool
+is_simple P = true
+is_simple Div = true
+is_simple Span = true
+is_simple B = true
+is_simple I = true
+is_simple Em = true
+is_simple Strong = true
+is_simple H1 = true
+is_simple H2 = true
+is_simple H3 = true
+is_simple H4 = true
+is_simple Ul = true
+is_simple Ol = true
+is_simple Li = true
+is_simple Code = true
+is_simple Blockquote = true
+is_simple Br = true
+is_simple Hr = true
+is_simple _ = false

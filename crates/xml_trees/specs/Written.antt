@@ -10,6 +10,7 @@ use Rattle.xml_trees.specs.Tags.{name_of}
 use Rattle.xml_trees.specs.Trees.{Trees, Nothing, Words, Element}
 use Rattle.xml_trees.specs.Markup.{Attribute, Markup, Empty, Characters, Tagged}
 
+-- an attribute of this name and text
 abbrev pub named : List ℕ → List ℕ → Attribute
 named name text = record { name = name; text = text }
 

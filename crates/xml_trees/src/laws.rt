@@ -1,4 +1,5 @@
 //! What holds of every page. Each function is a law: its contract says it, and it does nothing.
+ghost use Rattle.xml_trees.specs.Example.{ExampleIsShown};
 ghost use Rattle.xml_trees.specs.Grammar.{PagesAreUnique, TextsAreUnique, WrittenIsNormal};
 ghost use Rattle.xml_trees.specs.PieceText.{PiecesArePages};
 
@@ -20,4 +21,9 @@ pub fn written_is_normal()
 /// A page's pieces, written one after another, are its text.
 pub fn pieces_are_pages()
     ensures { PiecesArePages }
+{}
+
+/// One page and its text, which has each escape.
+pub fn example_is_shown()
+    ensures { ExampleIsShown }
 {}

@@ -6,7 +6,6 @@ pub mod laws;
 pub mod name;
 pub mod page;
 pub mod tag;
-
 pub use attrs::{Attr, Attrs};
 pub use name::Name;
 pub use page::{Page, Piece};

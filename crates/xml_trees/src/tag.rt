@@ -1,6 +1,7 @@
 //! The tags of a page.
-ghost use Rattle.std.specs.Prelude.{◌≡◌, IfOk};
-ghost use Rattle.xml_trees.specs.Tags.{name_of};
+ghost use Rattle.std.specs.Prelude.{◌≡◌, ◌≢◌, IfOk, IfSome, IfNone, IsTrue};
+ghost use Rattle.xml_trees.specs.Names.{name_bytes};
+ghost use Rattle.xml_trees.specs.Tags.{name_of, is_simple};
 
 use crate::Name;
 use std::alloc::{AllocError, Global};
@@ -45,6 +46,35 @@ pub enum Tag {
 }
 
 impl Tag {
+    /// The tag of this name among those that take text and one another: paragraphs, headings, lists and
+    /// their like, `br` and `hr`.
+    pub fn simple(name: &str) -> Option<Tag>
+        ensures some { IfSome result (λ tag. IsTrue (is_simple tag) × (name_bytes (name_of tag) ≡ name.now)) }
+        ensures none { IfNone result ((tag : Tag) → IsTrue (is_simple tag) → name_bytes (name_of tag) ≢ name.now) }
+    {
+        match name {
+            "p" => Some(Tag::P),
+            "div" => Some(Tag::Div),
+            "span" => Some(Tag::Span),
+            "b" => Some(Tag::B),
+            "i" => Some(Tag::I),
+            "em" => Some(Tag::Em),
+            "strong" => Some(Tag::Strong),
+            "h1" => Some(Tag::H1),
+            "h2" => Some(Tag::H2),
+            "h3" => Some(Tag::H3),
+            "h4" => Some(Tag::H4),
+            "ul" => Some(Tag::Ul),
+            "ol" => Some(Tag::Ol),
+            "li" => Some(Tag::Li),
+            "code" => Some(Tag::Code),
+            "blockquote" => Some(Tag::Blockquote),
+            "br" => Some(Tag::Br),
+            "hr" => Some(Tag::Hr),
+            _ => None,
+        }
+    }
+
     /// The name that the tag is written with. Every kind of input is an `input`.
     pub fn name(&self) -> Name
         ensures { result ≡ name_of self.now }
