@@ -12,7 +12,7 @@ use Rattle.surface_grammar.specs.Fronts.{first_kind}
 use Rattle.surface_grammar.specs.Listings.{marks_of, marks_all, marks_each}
 use Rattle.surface_grammar.specs.Sides.{is_tag}
 use Rattle.surface_grammar.specs.Table.{body_of}
-use Rattle.surface_grammar.specs.Trees.{Node, leaf, branch, several, absent, present, Nodes, none, more, spell, spell_all, front, begins, Built, Fits, FitsAll}
+use Rattle.surface_grammar.specs.Trees.{Node, leaf, branch, several, absent, present, Nodes, none, more, spell, spell_all, front, must_go_on, Built, Fits, FitsAll}
 use Rattle.surface_grammar.specs.Words.{accept}
 use Rattle.grammar_engine.specs.declared.want.Want.{Want}
 use Rattle.grammar_engine.specs.Moves.{wants_of}
@@ -91,16 +91,16 @@ grows_rule items p at room rest g r tag q inner own ws leaves marks built grows 
     (ap (λ l. leaves ++ l) (sym s.spelled))
 
 pub grows_end : (items : List Token) (p : Part) (at room : ℕ) (rest : List Token) (g : Form) (r tag : ℕ) (ws : List Want) (leaves : List Token) (marks : List Mark)
-    → begins g (first_kind rest) ≡ false
+    → must_go_on g (first_kind rest) ≡ false
     → Grows items p at room rest (record { part = Many g; room = r; tag = tag } ∷ ws) leaves marks → Grows items p at room rest ws leaves (marks ++ m.End ∷ [])
 grows_end items p at room rest g r tag ws leaves marks ended grows ns x e f =
-    regrow (grows (more (several none) ns) x e (ap (begins g) e ∙ ended, f)) (sym (append_assoc marks (m.End ∷ []) (marks_all ns))) refl
+    regrow (grows (more (several none) ns) x e (ap (must_go_on g) e ∙ ended, f)) (sym (append_assoc marks (m.End ∷ []) (marks_all ns))) refl
 
 pub grows_absent : (items : List Token) (p : Part) (at room : ℕ) (rest : List Token) (g : Form) (r tag : ℕ) (ws : List Want) (leaves : List Token) (marks : List Mark)
-    → begins g (first_kind rest) ≡ false
+    → must_go_on g (first_kind rest) ≡ false
     → Grows items p at room rest (record { part = Maybe g; room = r; tag = tag } ∷ ws) leaves marks → Grows items p at room rest ws leaves (marks ++ m.End ∷ [])
 grows_absent items p at room rest g r tag ws leaves marks ended grows ns x e f =
-    regrow (grows (more absent ns) x e (ap (begins g) e ∙ ended, f)) (sym (append_assoc marks (m.End ∷ []) (marks_all ns))) refl
+    regrow (grows (more absent ns) x e (ap (must_go_on g) e ∙ ended, f)) (sym (append_assoc marks (m.End ∷ []) (marks_all ns))) refl
 
 pub grows_present : (items : List Token) (p : Part) (at room : ℕ) (rest : List Token) (g : Form) (r tag : ℕ) (ws : List Want) (leaves : List Token) (marks : List Mark)
     → Grows items p at room rest (record { part = Maybe g; room = r; tag = tag } ∷ ws) leaves marks → Grows items p at room rest (record { part = One g; room = r; tag = tag } ∷ ws) leaves (marks ++ m.Item ∷ [])

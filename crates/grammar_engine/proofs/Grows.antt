@@ -6,7 +6,7 @@ use Rattle.surface_grammar.specs.declared.part.Part.{Part}
 use Rattle.surface_grammar.specs.declared.part.Part.TheVariants.{Word, One, Many, Maybe}
 use Rattle.surface_grammar.specs.declared.tree.Mark.{Mark}
 use Rattle.surface_grammar.specs.Fronts.{first_kind}
-use Rattle.surface_grammar.specs.Trees.{none, begins, spell}
+use Rattle.surface_grammar.specs.Trees.{none, must_go_on, spell}
 use Rattle.grammar_engine.specs.declared.want.Want.{Want}
 use Rattle.grammar_engine.specs.declared.machine.Machine.{Machine}
 use Rattle.grammar_engine.specs.Moves.{Begun, goes_by, MeetsPart}
@@ -23,22 +23,22 @@ moved items p at room rest rest' ws ws' leaves leaves' marks marks' e1 e2 e3 e4 
     (subst (λ l. Grows items p at room rest ws leaves l) (sym e4) grows)))
 
 grows_many : (b : Bool) (items : List Token) (p : Part) (at room : ℕ) (g : Form) (r tag : ℕ) (a c : Machine)
-    → begins g (first_kind (drop a.at items)) ≡ b → goes_by b g r tag (record { part = Many g; room = r; tag = tag } ∷ []) a c → c.at ≡ a.at → c.tree.leaves ≡ a.tree.leaves
+    → (b ≡ false → must_go_on g (first_kind (drop a.at items)) ≡ false) → goes_by b g r tag (record { part = Many g; room = r; tag = tag } ∷ []) a c → c.at ≡ a.at → c.tree.leaves ≡ a.tree.leaves
     → Grows items p at room (drop a.at items) (record { part = Many g; room = r; tag = tag } ∷ a.wants) a.tree.leaves a.tree.marks
     → Grows items p at room (drop c.at items) c.wants c.tree.leaves c.tree.marks
 grows_many true items p at room g r tag a c is by here same grows =
     moved items p at room _ _ _ _ _ _ _ _ (ap (λ i. drop i items) here) by.0 same by.1 (grows_item items p at room (drop a.at items) g r tag a.wants a.tree.leaves a.tree.marks grows)
 grows_many false items p at room g r tag a c is by here same grows =
-    moved items p at room _ _ _ _ _ _ _ _ (ap (λ i. drop i items) here) by.0 same by.1 (grows_end items p at room (drop a.at items) g r tag a.wants a.tree.leaves a.tree.marks is grows)
+    moved items p at room _ _ _ _ _ _ _ _ (ap (λ i. drop i items) here) by.0 same by.1 (grows_end items p at room (drop a.at items) g r tag a.wants a.tree.leaves a.tree.marks (is refl) grows)
 
 grows_maybe : (b : Bool) (items : List Token) (p : Part) (at room : ℕ) (g : Form) (r tag : ℕ) (a c : Machine)
-    → begins g (first_kind (drop a.at items)) ≡ b → goes_by b g r tag [] a c → c.at ≡ a.at → c.tree.leaves ≡ a.tree.leaves
+    → (b ≡ false → must_go_on g (first_kind (drop a.at items)) ≡ false) → goes_by b g r tag [] a c → c.at ≡ a.at → c.tree.leaves ≡ a.tree.leaves
     → Grows items p at room (drop a.at items) (record { part = Maybe g; room = r; tag = tag } ∷ a.wants) a.tree.leaves a.tree.marks
     → Grows items p at room (drop c.at items) c.wants c.tree.leaves c.tree.marks
 grows_maybe true items p at room g r tag a c is by here same grows =
     moved items p at room _ _ _ _ _ _ _ _ (ap (λ i. drop i items) here) by.0 same by.1 (grows_present items p at room (drop a.at items) g r tag a.wants a.tree.leaves a.tree.marks grows)
 grows_maybe false items p at room g r tag a c is by here same grows =
-    moved items p at room _ _ _ _ _ _ _ _ (ap (λ i. drop i items) here) by.0 same by.1 (grows_absent items p at room (drop a.at items) g r tag a.wants a.tree.leaves a.tree.marks is grows)
+    moved items p at room _ _ _ _ _ _ _ _ (ap (λ i. drop i items) here) by.0 same by.1 (grows_absent items p at room (drop a.at items) g r tag a.wants a.tree.leaves a.tree.marks (is refl) grows)
 
 pub grows_meets : (items : List Token) (p : Part) (at room : ℕ) (q : Part) (r tag : ℕ) (a c : Machine) → MeetsPart items q r tag a c
     → Grows items p at room (drop a.at items) (record { part = q; room = r; tag = tag } ∷ a.wants) a.tree.leaves a.tree.marks
@@ -49,8 +49,8 @@ grows_meets items p at room (Word w) r tag a c s grows =
 grows_meets items p at room (One g) r tag a c s grows =
     moved items p at room _ _ _ _ _ _ _ _ (ap (λ i. drop i items) s.at) s.wants s.leaves s.marks
     (grows_rule items p at room (drop a.at items) g r tag s.rule s.inner s.own a.wants a.tree.leaves a.tree.marks s.built grows)
-grows_meets items p at room (Many g) r tag a c s grows = grows_many (begins g (first_kind (drop a.at items))) items p at room g r tag a c refl s.by s.at s.leaves grows
-grows_meets items p at room (Maybe g) r tag a c s grows = grows_maybe (begins g (first_kind (drop a.at items))) items p at room g r tag a c refl s.by s.at s.leaves grows
+grows_meets items p at room (Many g) r tag a c s grows = grows_many s.taken items p at room g r tag a c s.sure s.by s.at s.leaves grows
+grows_meets items p at room (Maybe g) r tag a c s grows = grows_maybe s.taken items p at room g r tag a c s.sure s.by s.at s.leaves grows
 
 -- and what was read and what is left are the tokens
 pub read_meets : (items all : List Token) (q : Part) (r tag : ℕ) (a c : Machine) → MeetsPart items q r tag a c → all ≡ a.tree.leaves ++ drop a.at items → all ≡ c.tree.leaves ++ drop c.at items

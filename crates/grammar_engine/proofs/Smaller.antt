@@ -8,7 +8,7 @@ use Rattle.surface_grammar.specs.declared.rule.Rule.{Rule}
 use Rattle.surface_grammar.specs.Forms.{rules_of}
 use Rattle.surface_grammar.specs.Fronts.{first_kind}
 use Rattle.surface_grammar.specs.Table.{body_of}
-use Rattle.surface_grammar.specs.Trees.{IsIn, begins}
+use Rattle.surface_grammar.specs.Trees.{IsIn}
 use Rattle.grammar_engine.specs.declared.want.Want.{Want}
 use Rattle.grammar_engine.specs.declared.machine.Machine.{Machine}
 use Rattle.grammar_engine.specs.Moves.{wants_of, goes_by, MeetsPart}
@@ -88,6 +88,6 @@ smaller items (One g) room tag m n s =
     subst (λ i. left_over (drop i items) n.wants < left_over (drop m.at items) (record { part = One g; room = room; tag = tag } ∷ m.wants)) (sym s.at)
     (subst (λ l. left_over (drop m.at items) l < left_over (drop m.at items) (record { part = One g; room = room; tag = tag } ∷ m.wants)) (sym s.wants) (smaller_rule (drop m.at items) g s.rule room tag s.inner s.own m.wants s.built.rule))
 smaller items (Many g) room tag m n s =
-    smaller_goes (begins g (first_kind (drop m.at items))) items g room tag m n (Many g) (record { part = Many g; room = room; tag = tag } ∷ []) (record { part = Many g; room = room; tag = tag } ∷ m.wants) s.by (ap (λ i. drop i items) s.at) (smaller_end (drop m.at items) g room tag m.wants) (smaller_item (drop m.at items) g room tag m.wants)
+    smaller_goes s.taken items g room tag m n (Many g) (record { part = Many g; room = room; tag = tag } ∷ []) (record { part = Many g; room = room; tag = tag } ∷ m.wants) s.by (ap (λ i. drop i items) s.at) (smaller_end (drop m.at items) g room tag m.wants) (smaller_item (drop m.at items) g room tag m.wants)
 smaller items (Maybe g) room tag m n s =
-    smaller_goes (begins g (first_kind (drop m.at items))) items g room tag m n (Maybe g) [] (record { part = Maybe g; room = room; tag = tag } ∷ m.wants) s.by (ap (λ i. drop i items) s.at) (smaller_absent (drop m.at items) g room tag m.wants) (smaller_present (drop m.at items) g room tag m.wants)
+    smaller_goes s.taken items g room tag m n (Maybe g) [] (record { part = Maybe g; room = room; tag = tag } ∷ m.wants) s.by (ap (λ i. drop i items) s.at) (smaller_absent (drop m.at items) g room tag m.wants) (smaller_present (drop m.at items) g room tag m.wants)

@@ -11,7 +11,7 @@ use Rattle.surface_grammar.specs.Forms.{rules_of}
 use Rattle.surface_grammar.specs.Fronts.{first_kind}
 use Rattle.surface_grammar.specs.Sides.{bars_of, is_tag}
 use Rattle.surface_grammar.specs.Table.{body_of}
-use Rattle.surface_grammar.specs.Trees.{Built, IsIn, among, begins}
+use Rattle.surface_grammar.specs.Trees.{Built, IsIn, among, must_go_on}
 use Rattle.surface_grammar.specs.Words.{accept}
 use Rattle.grammar_engine.specs.declared.want.Want.{Want}
 use Rattle.grammar_engine.specs.declared.machine.Machine.{Machine}
@@ -47,13 +47,16 @@ pub record Expands (items : List Token) (g : Form) (room tag : ℕ) (a b : Machi
   pub leaves : b.tree.leaves ≡ a.tree.leaves
   pub marks : b.tree.marks ≡ a.tree.marks ++ m.Rule rule ∷ []
 
--- where the next token begins a tree of the form, one is to be read, and then the rest; else there is none
+-- a tree of the form is to be read, and then the rest; or there is none
 abbrev pub goes_by : Bool → Form → ℕ → ℕ → List Want → Machine → Machine → Type 0
 goes_by true g room tag rest a b = (b.wants ≡ record { part = One g; room = room; tag = tag } ∷ rest ++ a.wants) × (b.tree.marks ≡ a.tree.marks ++ m.Item ∷ [])
 goes_by false g room tag rest a b = (b.wants ≡ a.wants) × (b.tree.marks ≡ a.tree.marks ++ m.End ∷ [])
 
+-- a repetition or an option goes on, or ends where it doesn't have to go on
 pub record Goes (items : List Token) (g : Form) (room tag : ℕ) (rest : List Want) (a b : Machine) : Type 0 where
-  pub by : goes_by (begins g (first_kind (drop a.at items))) g room tag rest a b
+  pub taken : Bool
+  pub by : goes_by taken g room tag rest a b
+  pub sure : taken ≡ false → must_go_on g (first_kind (drop a.at items)) ≡ false
   pub at : b.at ≡ a.at
   pub leaves : b.tree.leaves ≡ a.tree.leaves
 

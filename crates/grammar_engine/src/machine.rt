@@ -1,7 +1,8 @@
 //! The state of reading, and its steps.
-ghost use Rattle.std.specs.Prelude.{◌≡◌, ◌++◌, ◌∷◌, [], drop, true, OnOk, IfOk, IfSome, IsTrue};
+ghost use Rattle.std.specs.Prelude.{◌≡◌, ◌++◌, ◌∷◌, [], drop, false, OnOk, IfOk, IfSome, IsTrue};
 ghost use Rattle.surface_grammar.specs.Fronts.{first_kind};
 ghost use Rattle.surface_grammar.specs.Table.{body_of};
+ghost use Rattle.surface_grammar.specs.Trees.{must_go_on};
 ghost use Rattle.grammar_engine.specs.Moves.{Begun, Chosen, Expands, Goes, Takes, wants_of};
 ghost use Rattle.grammar_engine.specs.Places.{name_at};
 
@@ -169,10 +170,12 @@ impl Machine {
         form: Form,
         room: u32,
         tag: usize,
+        taken: bool,
     ) -> Result<(), AllocError>
+        requires { taken ≡ false → must_go_on form (first_kind (drop self.old.at tokens.now.items)) ≡ false }
         ensures { OnOk result (Goes tokens.now.items form room tag [] self.old self.new) }
     {
-        if form.begins(kind_at(tokens, self.at)) {
+        if taken {
             self.tree.mark(Mark::Item)?;
             self.wants.push(Want {
                 part: Part::One(form),

@@ -1,7 +1,8 @@
 //! Reading a part to its end.
-ghost use Rattle.std.specs.Prelude.{◌≡◌, ◌∷◌, drop, OnOk, IfSome, IfOk};
+ghost use Rattle.std.specs.Prelude.{◌≡◌, ◌∷◌, drop, false, OnOk, IfSome, IfOk};
 ghost use Rattle.surface_grammar.specs.Fronts.{first_kind};
 ghost use Rattle.surface_grammar.specs.Refusals.{deepest, WholeTree};
+ghost use Rattle.surface_grammar.specs.Trees.{must_go_on};
 ghost use Rattle.grammar_engine.specs.Moves.{Chosen, Kept, MeetsPart};
 ghost use Rattle.grammar_engine.specs.Reads.{Reads};
 
@@ -9,7 +10,7 @@ use crate::machine::choose;
 use crate::tokens::kind_at;
 use crate::{Machine, Stop, Want};
 use std::alloc::{AllocError, Global};
-use surface_grammar::{ConRule, ExpRule, Form, ParseFault, Part, Rule, SqlRule, Tree};
+use surface_grammar::{ExpRule, Form, ParseFault, Part, Rule, SqlRule, Tree};
 use surface_tree::{Kind, Tokens};
 
 /// A way of reading that may be open: a tree of the form begins at the place, and such a token
@@ -61,7 +62,10 @@ fn meet(
             machine.begin(tokens, form, rule, want.room, want.tag)
         }
         Part::Many(form) => Ok(machine.again(tokens, form, want.room, want.tag)?),
-        Part::Maybe(form) => Ok(machine.perhaps(tokens, form, want.room, want.tag)?),
+        Part::Maybe(form) => {
+            let taken = goes_on(machine, alloc, tokens, form, want.room, races)?;
+            Ok(machine.perhaps(tokens, form, want.room, want.tag, taken)?)
+        }
     }
 }
 
@@ -85,12 +89,6 @@ fn pick(
                 return Ok(Rule::Exp(ExpRule::ExpBind));
             }
             Ok(Rule::Exp(ExpRule::ExpPlain))
-        }
-        Form::ConParenRest if next == Some(Kind::LowerName) => {
-            if is_kinded(machine, alloc, tokens, room, races)? {
-                return Ok(Rule::Con(ConRule::ConKinded));
-            }
-            Ok(Rule::Con(ConRule::ConGroup))
         }
         Form::SqlBraceRest => {
             let second = kind_at(tokens, machine.at.saturating_add(1));
@@ -123,12 +121,35 @@ fn is_bind(
         start: machine.at,
         behind: Kind::LeftArrow,
     };
-    is_open(machine, alloc, tokens, way, room, races)
+    try_way(machine, alloc, tokens, way, room, races)
 }
 
-/// Whether a lower name, `::`, a kind and `)` stand here.
+/// Whether an option of the form is taken.
 #[cycle(read)]
-fn is_kinded(
+fn goes_on(
+    machine: &mut Machine,
+    alloc: Global,
+    tokens: &Tokens,
+    form: Form,
+    room: u32,
+    races: u32,
+) -> Result<bool, AllocError>
+    ensures sure { IfOk result (λ taken. taken ≡ false → must_go_on form (first_kind (drop machine.old.at tokens.now.items)) ≡ false) }
+    ensures kept { OnOk result (Kept machine.old machine.new) }
+{
+    let next = kind_at(tokens, machine.at);
+    match (form, next) {
+        (Form::ConForall, Some(Kind::DoubleColon)) => {
+            Ok(!is_kind_mark(machine, alloc, tokens, room, races)?)
+        }
+        _ => Ok(form.begins(next)),
+    }
+}
+
+/// Whether the `::` here is that of a constructor with its kind in brackets: a constructor may end
+/// here, and a kind and `)` follow.
+#[cycle(read)]
+fn is_kind_mark(
     machine: &mut Machine,
     alloc: Global,
     tokens: &Tokens,
@@ -137,21 +158,21 @@ fn is_kinded(
 ) -> Result<bool, AllocError>
     ensures { OnOk result (Kept machine.old machine.new) }
 {
-    let mark = machine.at.saturating_add(1);
-    if kind_at(tokens, mark) != Some(Kind::DoubleColon) {
-        return Ok(false);
+    match machine.wants.first_solid() {
+        Some(Part::One(Form::ConParenEnd)) => {}
+        _ => return Ok(false),
     }
     let way = Way {
         form: Form::KindTerm,
-        start: mark.saturating_add(1),
+        start: machine.at.saturating_add(1),
         behind: Kind::RightParenthesis,
     };
-    is_open(machine, alloc, tokens, way, room, races)
+    try_way(machine, alloc, tokens, way, room, races)
 }
 
 /// Whether the way is open. Where it isn't, the place at which it is refused is kept.
 #[cycle(read)]
-fn is_open(
+fn try_way(
     machine: &mut Machine,
     alloc: Global,
     tokens: &Tokens,

@@ -63,7 +63,6 @@ constructors_body con.ConRow = Word k.LeftBracket ∷ Maybe f.ConRowFields ∷ W
 constructors_body con.HashUpper = Word k.UpperName ∷ []
 constructors_body con.HashInt = Word k.Integer ∷ []
 constructors_body con.ConUnit = Word k.RightParenthesis ∷ []
-constructors_body con.ConKinded = Word k.LowerName ∷ Word k.DoubleColon ∷ One f.KindTerm ∷ Word k.RightParenthesis ∷ []
 constructors_body con.ConGroup = One f.Con ∷ One f.ConParenEnd ∷ []
 constructors_body con.ConClose = Word k.RightParenthesis ∷ []
 constructors_body con.ConMarked = Word k.DoubleColon ∷ One f.KindTerm ∷ Word k.RightParenthesis ∷ []

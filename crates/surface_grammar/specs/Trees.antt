@@ -1,9 +1,11 @@
 -- The trees of the grammar: what they spell, and which of them are of a form.
-use Rattle.std.specs.Prelude.{◌≡◌, ℕ, ◌+◌, ◌⊎◌, Bool, true, false, ◌||◌, if◌then◌else◌, List, [], ◌∷◌, ◌++◌, Option, Some, None}
+use Rattle.std.specs.Prelude.{◌≡◌, ℕ, ◌+◌, ◌⊎◌, Bool, true, false, not, ◌&&◌, ◌||◌, if◌then◌else◌, List, [], ◌∷◌, ◌++◌, Option, Some, None}
 use Rattle.surface_tree.specs.declared.kind.Kind.{Kind}
+use Rattle.surface_tree.specs.declared.kind.Kind.TheVariants as k
 use Rattle.surface_tree.specs.declared.token.Token.{Token}
 use Rattle.surface_tree.specs.declared.token.Content.{Content}
 use Rattle.surface_grammar.specs.declared.form.Form.{Form}
+use Rattle.surface_grammar.specs.declared.form.Form.TheVariants as f
 use Rattle.surface_grammar.specs.declared.part.Part.{Part}
 use Rattle.surface_grammar.specs.declared.part.Part.TheVariants.{Word, One, Many, Maybe}
 use Rattle.surface_grammar.specs.declared.rule.Rule.{Rule}
@@ -57,6 +59,16 @@ among ws (Some x) = any_accepts ws x
 abbrev pub begins : Form → Option Kind → Bool
 begins g x = among (first_of g) x
 
+-- the one option that the next token doesn't decide: in brackets a `::` behind a name may begin the kind of the
+-- constructor that ends there
+abbrev pub is_open : Form → Option Kind → Bool
+is_open f.ConForall (Some k.DoubleColon) = true
+is_open _ _ = false
+
+-- a repetition or an option of the form has to go on with the token
+abbrev pub must_go_on : Form → Option Kind → Bool
+must_go_on g x = begins g x && not (is_open g x)
+
 -- the rule stands in the list
 abbrev pub IsIn : Rule → List Rule → Type 0
 IsIn q [] = ⊥
@@ -76,7 +88,7 @@ pub record Built (room inner : ℕ) (name own : Content) (q : Rule) (g : Form) (
 
 -- `Fits room name n p x`: the tree is one for the part, where it may be so many levels deep, the innermost
 -- element around it has this name, and the token x, or nothing, follows it. A repetition and an option take
--- all that they can: they end only where what follows begins no further tree.
+-- all that they can: they end only where what follows does not have to be taken.
 abbrev mutual
   pub Fits : ℕ → Content → Node → Part → Option Kind → Type 0
   Fits room name (leaf t) (Word w) x = (accept w t.kind ≡ true) × (is_tag w ≡ true → t.content ≡ name)
@@ -94,7 +106,7 @@ abbrev mutual
   Fits room name absent (Word w) x = ⊥
   Fits room name absent (One g) x = ⊥
   Fits room name absent (Many g) x = ⊥
-  Fits room name absent (Maybe g) x = begins g x ≡ false
+  Fits room name absent (Maybe g) x = must_go_on g x ≡ false
   Fits room name (present n) (Word w) x = ⊥
   Fits room name (present n) (One g) x = ⊥
   Fits room name (present n) (Many g) x = ⊥
@@ -107,5 +119,5 @@ abbrev mutual
   FitsAll room name (more n ns) (p ∷ ps) x = Fits room name n p (front (spell_all ns) x) × FitsAll room name ns ps x
 
   pub FitsEach : ℕ → Content → Nodes → Form → Option Kind → Type 0
-  FitsEach room name none g x = begins g x ≡ false
+  FitsEach room name none g x = must_go_on g x ≡ false
   FitsEach room name (more n ns) g x = Fits room name n (One g) (front (spell_all ns) x) × FitsEach room name ns g x

@@ -60,8 +60,6 @@ pub enum ConRule {
     HashInt,
     /// `ConParenRest = ")"`.
     ConUnit,
-    /// `ConParenRest = lower "::" KindTerm ")"`.
-    ConKinded,
     /// `ConParenRest = Con ConParenEnd`.
     ConGroup,
     /// `ConParenEnd = ")"`.
@@ -202,12 +200,6 @@ pub fn body(rule: ConRule) -> &'static [Part]
         ConRule::HashUpper => &[Part::Word(Kind::UpperName)],
         ConRule::HashInt => &[Part::Word(Kind::Integer)],
         ConRule::ConUnit => &[Part::Word(Kind::RightParenthesis)],
-        ConRule::ConKinded => &[
-            Part::Word(Kind::LowerName),
-            Part::Word(Kind::DoubleColon),
-            Part::One(Form::KindTerm),
-            Part::Word(Kind::RightParenthesis),
-        ],
         ConRule::ConGroup => &[Part::One(Form::Con), Part::One(Form::ConParenEnd)],
         ConRule::ConClose => &[Part::Word(Kind::RightParenthesis)],
         ConRule::ConMarked => &[

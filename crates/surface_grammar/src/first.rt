@@ -55,11 +55,7 @@ impl Form {
                 Rule::Con(ConRule::ConRow),
             ],
             Form::HashName => &[Rule::Con(ConRule::HashUpper), Rule::Con(ConRule::HashInt)],
-            Form::ConParenRest => &[
-                Rule::Con(ConRule::ConUnit),
-                Rule::Con(ConRule::ConKinded),
-                Rule::Con(ConRule::ConGroup),
-            ],
+            Form::ConParenRest => &[Rule::Con(ConRule::ConUnit), Rule::Con(ConRule::ConGroup)],
             Form::ConParenEnd => &[
                 Rule::Con(ConRule::ConClose),
                 Rule::Con(ConRule::ConMarked),

@@ -6,11 +6,14 @@ use Rattle.grammar_engine.proofs.read.+read.Given as goal
 abbrev pub decreases-is_bind : goal.decreases-is_bind
 decreases-is_bind l = 10 * l.races + 2
 
-abbrev pub decreases-is_kinded : goal.decreases-is_kinded
-decreases-is_kinded l = 10 * l.races + 2
+abbrev pub decreases-goes_on : goal.decreases-goes_on
+decreases-goes_on l = 10 * l.races + 3
 
-abbrev pub decreases-is_open : goal.decreases-is_open
-decreases-is_open l = 10 * l.races + 1
+abbrev pub decreases-is_kind_mark : goal.decreases-is_kind_mark
+decreases-is_kind_mark l = 10 * l.races + 2
+
+abbrev pub decreases-try_way : goal.decreases-try_way
+decreases-try_way l = 10 * l.races + 1
 
 abbrev pub decreases-meet : goal.decreases-meet
 decreases-meet l = 10 * l.races + 4
