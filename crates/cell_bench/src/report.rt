@@ -10,8 +10,8 @@ use std::time::{Clock, Duration};
 
 const THREADS: [u32; 3] = [1, 2, 4];
 
-// How often each measurement is made; the best counts.
-const TRIALS: u32 = 100;
+// How often each measurement is made; the middle one counts, since the best would be one in which no thread waits.
+const TRIALS: u32 = 41;
 
 /// A few commits by each side, with the counts that they leave.
 pub fn tiny<R: Wait + Threads + Clock + Print + Sync>(rt: &R, alloc: Global) -> anyhow::Result<()> {
@@ -27,18 +27,16 @@ pub fn tiny<R: Wait + Threads + Clock + Print + Sync>(rt: &R, alloc: Global) -> 
     Ok(())
 }
 
-fn best(times: &mut f64, time: Duration) {
-    let seconds = time.as_secs_f64();
-    if seconds < *times {
-        *times = seconds;
-    }
+fn middle(times: &mut Vec<Duration>) -> Option<f64> {
+    times.sort().ok()?;
+    times.get(times.len() / 2).map(|time| time.as_secs_f64())
 }
 
 /// Measures, and prints commits a second and what a commit costs its thread beyond its work, which is mostly waiting.
 pub fn full<R: Wait + Threads + Clock + Print + Sync>(rt: &R, alloc: Global) -> anyhow::Result<()> {
     let rounds = rounds_of(rt, 10.0).context("the clock")?;
     println!(rt; "work  threads  cell/s  mutex/s  cell/mutex  cell waits ns  mutex waits ns")?;
-    for (micros, rounds, all) in [(0.0, 0, 200_000), (10.0, rounds, 400)] {
+    for (micros, rounds, all) in [(0.0, 0, 1_000_000), (10.0, rounds, 1_000)] {
         for threads in THREADS {
             line(rt, alloc, micros, rounds, all, threads)?;
         }
@@ -58,18 +56,14 @@ fn line<R: Wait + Threads + Clock + Print + Sync>(
         commits: u64::from(all / threads.max(1)),
         rounds,
     };
-    let mut cell = f64::MAX;
-    let mut mutex = f64::MAX;
+    let mut cell = Vec::new(alloc);
+    let mut mutex = Vec::new(alloc);
     for _ in 0..TRIALS {
-        best(
-            &mut cell,
-            cell_time(rt, alloc, threads, load).context("memory")?.0,
-        );
-        best(
-            &mut mutex,
-            mutex_time(rt, alloc, threads, load).context("memory")?.0,
-        );
+        cell.push(cell_time(rt, alloc, threads, load).context("memory")?.0)?;
+        mutex.push(mutex_time(rt, alloc, threads, load).context("memory")?.0)?;
     }
+    let cell = middle(&mut cell).context("memory")?;
+    let mutex = middle(&mut mutex).context("memory")?;
     let commits = f64::from(all);
     let waits = |seconds: f64| seconds * f64::from(threads) / commits * 1.0e9 - micros * 1.0e3;
     println!(rt;

@@ -127,13 +127,14 @@ impl<S: Replays> Cell<S> {
         if let Some(turn) = self.take_awake(pass) {
             return turn;
         }
+        let mut seen = TAKEN;
         // From here on the word is left crowded, since others may sleep that this thread was woken before.
         for _ in rt.forever() {
-            if let Some(turn) = self.try_take(pass, Asker::Sleeps) {
+            if let Some(turn) = self.take_or_crowd(pass, seen) {
                 return turn;
             }
             self.table.shared.park(rt, 0, CROWDED as u32);
-            self.look();
+            seen = self.look();
         }
         unreachable!()
     }
@@ -181,18 +182,34 @@ impl<S: Replays> Cell<S> {
         if let Some(turn) = self.try_take(pass, Asker::Passes) {
             return Some(turn);
         }
-        self.look();
+        if self.look() != FREE {
+            return None;
+        }
         self.try_take(pass, Asker::Passes)
     }
 
-    // Looks for a while, until the turn is free.
-    fn look(&self) {
+    // Takes the turn if it is free, and else leaves word that one sleeps for it, unless that was seen to stand there.
+    fn take_or_crowd(&self, pass: &mut Pass<S>, seen: u64) -> Option<Turn<S>>
+        requires { IsFreeOf self.now pass.old }
+        ensures some { IfSome result (λ t. TakesTurn S.number S.serial S.stands self.now pass.old pass.new t) }
+        ensures none { IfNone result (StaysFree self.now pass.old pass.new) }
+    {
+        if seen == CROWDED {
+            return None;
+        }
+        self.try_take(pass, Asker::Sleeps)
+    }
+
+    // Looks for a while, as long as the turn is taken and no one sleeps for it, and answers the word that it saw last.
+    fn look(&self) -> u64 {
         for _ in 0..LOOKS {
-            if self.table.shared.peek(0) == FREE {
-                return;
+            let seen = self.table.shared.peek(0);
+            if seen != TAKEN {
+                return seen;
             }
             spin_loop();
         }
+        TAKEN
     }
 
     // Takes the turn with the value, if it is free.
