@@ -1,0 +1,5 @@
+pub mod Outcomes
+pub mod Reducing
+pub mod Applying
+pub mod Walking
+pub mod Levels

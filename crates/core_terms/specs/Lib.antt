@@ -29,3 +29,4 @@ pub mod PatternFaults
 pub mod Found
 pub mod Own
 pub mod Tells
+pub mod Budget

@@ -8,6 +8,7 @@ pub mod accepted;
 pub mod basis;
 pub mod decl;
 pub mod exp;
+pub mod laws;
 pub mod markup;
 pub mod pat;
 pub mod program;
