@@ -9,6 +9,9 @@ mod hidden;
 mod length;
 mod writer;
 
+#[cfg(test)]
+mod tests;
+
 pub use fault::PageFault;
 pub use length::page_length;
 pub use writer::write_page;
