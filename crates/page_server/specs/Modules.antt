@@ -1,9 +1,9 @@
 -- Which modules have a page, and which are refused.
 use Rattle.std.specs.Prelude.{◌≡◌, ℕ, ◌<◌, ◌≤◌, ◌⊎◌, List, length}
 use Rattle.std.specs.Str.{IsUtf8}
-use Rattle.surface_tree.specs.TokenList.{TokenList}
+use Rattle.surface_tree.specs.declared.token.Token.{Token}
 use Rattle.xml_trees.specs.Trees.{Trees}
-use Rattle.ur_lexer.specs.Lexing.{Lexes, Faults}
+use Rattle.ur_lexer.specs.Lexing.{Lexes, at_end, IsTold}
 use Rattle.ur_lexer.specs.declared.fault.LexFault.{LexFault}
 use Rattle.ur_lexer.specs.declared.fault.LexFault.TheVariants as lexer
 use Rattle.ur_parser.specs.Small.{Module, IsSmall, IsNoSmall, longest as longest_small}
@@ -34,25 +34,24 @@ longest = 4194304
 abbrev pub IsModule : List ℕ → Type 0
 IsModule bytes = (length bytes ≤ longest) × IsUtf8 bytes
 
--- The module is cut into these tokens, they are those of a module of the small form, and this is the page that its
--- `main` returns.
+-- The module has these tokens, they are those of a module of the small form, and this is the page that its `main`
+-- returns.
 abbrev pub HasPage : List ℕ → Trees → Type 0
 HasPage bytes trees =
-    IsModule bytes × (tokens : TokenList) × Lexes bytes tokens × (tokens.end ≤ longest_small)
-    × (m : Module) × IsSmall tokens.items m × (trees ≡ page_of m)
+    IsModule bytes × (length bytes ≤ longest_small) × (tokens : List Token) × Lexes bytes tokens at_end
+    × (m : Module) × IsSmall tokens m × (trees ≡ page_of m)
 
--- The module is cut into tokens, and is too long for the small form or no module of it.
+-- The module has tokens, and is too long for the small form or no module of it.
 abbrev pub HasNoForm : List ℕ → Type 0
-HasNoForm bytes =
-    (tokens : TokenList) × Lexes bytes tokens × ((longest_small < tokens.end) ⊎ IsNoSmall tokens.items)
+HasNoForm bytes = (tokens : List Token) × Lexes bytes tokens at_end × ((longest_small < length bytes) ⊎ IsNoSmall tokens)
 
 -- Why a module has no page; want of memory says nothing of it.
 abbrev pub IsRefused : List ℕ → ModuleFault → Type 0
 IsRefused bytes FileTooLong = longest < length bytes
 IsRefused bytes NotUtf8 = (length bytes ≤ longest) × ¬ (IsUtf8 bytes)
-IsRefused bytes (BadChar at) = IsModule bytes × Faults bytes (lexer.BadChar at)
-IsRefused bytes (OpenText at) = IsModule bytes × Faults bytes (lexer.OpenText at)
-IsRefused bytes (OpenComment at) = IsModule bytes × Faults bytes (lexer.OpenComment at)
-IsRefused bytes (IntTooLarge at) = IsModule bytes × Faults bytes (lexer.IntTooLarge at)
+IsRefused bytes (BadChar at) = IsModule bytes × IsTold bytes (lexer.BadChar at)
+IsRefused bytes (OpenText at) = IsModule bytes × IsTold bytes (lexer.OpenText at)
+IsRefused bytes (OpenComment at) = IsModule bytes × IsTold bytes (lexer.OpenComment at)
+IsRefused bytes (IntTooLarge at) = IsModule bytes × IsTold bytes (lexer.IntTooLarge at)
 IsRefused bytes NotBuilt = IsModule bytes × HasNoForm bytes
 IsRefused bytes Memory = Unit {0}

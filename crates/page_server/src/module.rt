@@ -6,6 +6,7 @@ ghost use Rattle.page_server.specs.Modules.{HasPage, IsRefused};
 use crate::ModuleFault;
 use std::alloc::Global;
 use std::str;
+use ur_lexer::laws::texts_have_one_reading;
 use ur_lexer::lex;
 use ur_parser::read_small;
 use xml_trees::Page;
@@ -26,6 +27,7 @@ pub fn page_of(alloc: Global, bytes: &[u8]) -> Result<Page, ModuleFault>
     let Ok(text) = str::from_utf8(bytes) else {
         return Err(ModuleFault::NotUtf8);
     };
+    texts_have_one_reading();
     let tokens = lex(alloc, text)?;
     let small = read_small(alloc, &tokens)?;
     Ok(small.page)

@@ -1,6 +1,7 @@
 use Rattle.std.proofs.Common.{rules, ◌≡◌, ◌≤◌, ◌<◌, ℕ, List, length, Some, Ok, Err, arith, refl, sym, ap, ◌∙◌, subst, ◌⊎◌, inl, inr}
 use Rattle.std.specs.Prelude.{IsOk}
 use Rattle.page_server.specs.Modules.{HasPage, IsRefused}
+use Rattle.xml_trees.specs.Trees.{built, trees_of}
 use Rattle.page_server.proofs.Inputs.{refusal, page, told, no_line, front_of_line, front_of_page}
 use Rattle.page_server.proofs.command.end_page.Goals as goal
 
@@ -23,3 +24,10 @@ returns-clause-front g c done =
     let v = c.in-Ok.bytes.items in
     front_of_line _ _ _ _ v c.in-Err.fault c.in-Ok.ensures.bytes (λ h. c.in-Ok.ensures.end (omega (arith, h, c.in-Ok.bytes.ok.0)))
     (subst (λ (l : List ℕ). IsRefused l c.in-Err.fault) c.deref.ensures.value c.in-Err.ensures.refused) (c.end_refused.ensures.front done)
+
+pub returns-in-Ok-page_of-clause-front : goal.returns-in-Ok-page_of-clause-front
+returns-in-Ok-page_of-clause-front g c done =
+    let v = c.in-Ok.bytes.items in
+    let trees = trees_of (built c.in-Ok-page_of.page) in
+    front_of_page _ _ _ _ v trees c.in-Ok.ensures.bytes (λ h. c.in-Ok.ensures.end (omega (arith, h, c.in-Ok.bytes.ok.0)))
+    (subst (λ (l : List ℕ). HasPage l trees) c.deref.ensures.value c.in-Ok-page_of.ensures.page) (c.end_with_page.ensures.front done)
