@@ -6,6 +6,9 @@ pub mod laws;
 pub mod name;
 pub mod page;
 pub mod tag;
+#[cfg(test)]
+mod tests;
+
 pub use attrs::{Attr, Attrs};
 pub use name::Name;
 pub use page::{Page, Piece};
