@@ -6,7 +6,6 @@ use Rattle.surface_grammar.specs.declared.part.Part.{Part}
 use Rattle.surface_grammar.specs.declared.part.Part.TheVariants.{Word, One, Many, Maybe}
 use Rattle.surface_grammar.specs.declared.rule.Rule.{Rule}
 use Rattle.surface_grammar.specs.Forms.{rules_of}
-use Rattle.surface_grammar.specs.Fronts.{first_kind}
 use Rattle.surface_grammar.specs.Table.{body_of}
 use Rattle.surface_grammar.specs.Trees.{IsIn}
 use Rattle.grammar_engine.specs.declared.want.Want.{Want}

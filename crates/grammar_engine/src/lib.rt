@@ -1,6 +1,7 @@
 //! Reads a tree of any form of the grammar by its table, with a stack of its own.
 #![tactic(auto)]
 
+pub mod laws;
 pub mod machine;
 pub mod read;
 pub mod stop;

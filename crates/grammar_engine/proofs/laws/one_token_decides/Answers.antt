@@ -1,0 +1,5 @@
+use Rattle.grammar_engine.proofs.Decided.{decides}
+use Rattle.grammar_engine.proofs.laws.one_token_decides.Goals as goal
+
+pub returns : goal.returns
+returns c = decides

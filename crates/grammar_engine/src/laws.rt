@@ -1,0 +1,18 @@
+//! What holds of every tree, stated by functions that do nothing.
+ghost use Rattle.std.specs.Prelude.{◌≡◌, true};
+ghost use Rattle.surface_tree.specs.declared.kind.Kind.{Kind};
+ghost use Rattle.surface_grammar.specs.declared.form.Form.{Form};
+ghost use Rattle.grammar_engine.specs.Choices.{OneTree};
+ghost use Rattle.grammar_engine.specs.Laws.{one_token_decides};
+
+/// The table is one in which a token decides: it begins a form exactly where it begins a rule of
+/// it, and but in two forms it begins one rule alone.
+pub fn one_token_decides()
+    ensures { (g : Form) (x : Kind) → one_token_decides g x ≡ true }
+{}
+
+/// Two trees for one part at the front of one list of tokens, which choose alike where one token
+/// does not decide, are one tree, and leave the same tokens.
+pub fn one_tree()
+    ensures { OneTree }
+{}
