@@ -30,3 +30,5 @@ pub mod Found
 pub mod Own
 pub mod Tells
 pub mod Budget
+pub mod ExampleTerms
+pub mod ExampleRuns

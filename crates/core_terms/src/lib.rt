@@ -7,6 +7,7 @@
 pub mod accepted;
 pub mod basis;
 pub mod decl;
+pub mod examples;
 pub mod exp;
 pub mod laws;
 pub mod markup;
