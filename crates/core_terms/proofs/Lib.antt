@@ -5,3 +5,6 @@ pub mod Walking
 pub mod Levels
 pub mod Spinning
 pub mod SplicedPage
+pub mod ExampleTypes
+pub mod ExampleFaults
+pub mod ExampleCover

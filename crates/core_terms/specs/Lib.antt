@@ -32,3 +32,4 @@ pub mod Tells
 pub mod Budget
 pub mod ExampleTerms
 pub mod ExampleRuns
+pub mod ExampleTypings

@@ -1,0 +1,133 @@
+-- What the examples have at fault, and that nothing stands before it.
+use Rattle.std.proofs.Common.{◌≡◌, ℕ, zero, suc, ◌<◌, ℤ, Bool, true, false, List, [], ◌∷◌, ◌++◌, Option, Some, None, refl, arith, ap, sym, ◌∙◌, subst, ◌⊎◌, inl, inr}
+use Rattle.std.specs.Prelude.{slice_get}
+use Rattle.con_terms.specs.Trees.{types, names, row_of, Cn, var, basic, app, record_of, cat, name, row, no_pairs, pair}
+use Rattle.con_terms.specs.Apart.{Separated, names_differ, by_guard, by_guard_turned}
+use Rattle.con_terms.specs.Kinded.{Kinded, of_var, of_basic, of_app, of_record, of_row, of_name, no_fields as no_row_fields, a_field as a_row_field}
+use Rattle.con_terms.specs.declared.place.Place.{Place}
+use Rattle.core_terms.specs.Names.{option_name}
+use Rattle.core_terms.specs.Types.{int_type, type_row}
+use Rattle.core_terms.specs.Trees.{Pt, pattern, Pf, binds, is_holding, Ex, node, Fo, bound, number, ascribed, concat, fields_of, field, no_fields, case_of, no_branches, Brs}
+use Rattle.core_terms.specs.Scopes.{Sc, under}
+use Rattle.core_terms.specs.Faults.{Fault, mismatch, not_disjoint, inexhaustive, too_large, at, Earlier}
+use Rattle.core_terms.specs.Compared.{Differ, Large, Touch, in_first, this}
+use Rattle.core_terms.specs.Found.{Found, bound_has, number_has, fields_have, no_field_found, field_found}
+use Rattle.core_terms.specs.Own.{Own, Wants, other, large, NotOf, other_form, large_form, Meets, they_touch, they_are_large, place_of, no_variable, written_kind, not_as_written, left_no_record, right_no_record, clash, a_field, same_names, FieldFault, field_kind, later_field}
+use Rattle.core_terms.specs.Tells.{Tells, tells_own, Sub, with_type, left, right, field_term, InFields, this_field, past_field, Fails, itself, inside}
+use Rattle.core_terms.specs.ExampleTerms.{byte, too_many_fields, a_name, x_name, clashing, without_none, option_int, some_pattern, basis_scope}
+use Rattle.core_terms.specs.ExampleTypings.{with_two_rows, no_kind_faults, MoreFieldsMismatch, SameNamesClash}
+
+not_before_itself : (p : Place) → Earlier p p → ⊥
+not_before_itself p (inl h) = absurd (omega (arith, h))
+not_before_itself p (inr h) = absurd (omega (arith, h.1))
+
+abbrev IsNone : {X : Type 0} → Option X → Type 0
+IsNone None = Unit {0}
+IsNone (Some x) = ⊥
+
+pub no_some : {X : Type 0} {x : X} → None ≡ Some x → ⊥
+no_some e = subst IsNone e tt
+
+pub not_before : (f : Fault) {p : Place} → at f ≡ p → Earlier (at f) p → ⊥
+not_before f {p} e h = not_before_itself p (subst (λ q. Earlier q p) e h)
+
+-- where faults of each kind stand
+wants_at : {p : Place} {t u : Cn} {f : Fault} → Wants p t u f → at f ≡ p
+wants_at (other d) = refl
+wants_at (large d) = refl
+
+form_at : {F : Cn → Type 0} {p : Place} {w t : Cn} {f : Fault} → NotOf F p w t f → at f ≡ p
+form_at (other_form n d) = refl
+form_at (large_form n) = refl
+
+meets_at : {G : Sc} {p : Place} {a b : Cn} {f : Fault} → Meets G p a b f → at f ≡ p
+meets_at (they_touch t) = refl
+meets_at (they_are_large l) = refl
+
+ascribed_at : {G : Sc} {p : Place} {a : Bool} {e : Ex} {t : Cn} {f : Fault} → Own no_kind_faults G (node p a (ascribed e t)) f → at f ≡ place_of e
+ascribed_at (written_kind h) = absurd h
+ascribed_at (not_as_written k g w) = wants_at w
+
+-- a variable that is bound has no fault, and neither has a number
+pub bound_is_well : {G : Sc} {p : Place} {a : Bool} {i : ℕ} {t : Cn} {f : Fault} → slice_get G.locals i ≡ Some t → Fails no_kind_faults G (node p a (bound i)) f → ⊥
+bound_is_well s (itself (no_variable n)) = no_some (sym n ∙ s)
+bound_is_well s (inside h g) = elim h [ ]
+
+number_is_well : {G : Sc} {p : Place} {a : Bool} {z : ℤ} {f : Fault} → Fails no_kind_faults G (node p a (number z)) f → ⊥
+number_is_well (itself o) = elim o [ ]
+number_is_well (inside s g) = elim s [ ]
+
+-- {x = z}
+literal_is_well : {G : Sc} {p q r : Place} {a b : Bool} {n : Cn} {z : ℤ} {f : Fault} → Fails no_kind_faults G (node p a (fields_of (field q n (node r b (number z)) no_fields))) f → ⊥
+literal_is_well (itself (a_field (field_kind h))) = absurd h
+literal_is_well (itself (a_field (later_field h))) = elim h [ ]
+literal_is_well (itself (same_names h k)) = absurd k
+literal_is_well (inside (field_term this_field) g) = number_is_well g
+literal_is_well (inside (field_term (past_field h)) g) = elim h [ ]
+
+-- $ r wanted, $ ( r ++ s ) found
+more_fields : Cn
+more_fields = record_of (cat (var 1) (var 0))
+
+not_one_row : record_of (var 1) ≡ record_of (cat (var 1) (var 0)) → ⊥
+not_one_row e = subst is_var e tt
+  where
+    is_var : Cn → Type 0
+    is_var (record_of (var i)) = Unit {0}
+    is_var _ = ⊥
+
+they_differ : Differ (record_of (var 1)) (record_of (cat (var 1) (var 0))) (record_of (var 1)) (record_of (cat (var 1) (var 0)))
+they_differ = record { normal = record { left = 100000; left' = 100000; first = refl; second = refl }; differ = not_one_row }
+
+after_ascribed : {G : Sc} {p : Place} {a : Bool} {e : Ex} {t : Cn} → ((f : Fault) → Fails no_kind_faults G e f → ⊥) → (q : Place) (H : Sc) (c : Ex) (f : Fault) → Sub G (node p a (ascribed e t)) H c → Fails no_kind_faults H c f → Earlier q (at f)
+after_ascribed well q H c f with_type g = absurd (well f g)
+
+pub more_fields_told : MoreFieldsMismatch
+more_fields_told =
+    tells_own (not_as_written (of_record (of_var refl)) (bound_has refl) (other they_differ))
+    (λ f o h. not_before f (ascribed_at o) h)
+    (after_ascribed (λ f g. bound_is_well refl g) (byte 65))
+
+-- #A and #A
+not_separated : Separated [] (name a_name) (name a_name) → ⊥
+not_separated (names_differ d) = d refl
+not_separated (by_guard l c h k) = absurd (omega (arith, c.1))
+not_separated (by_guard_turned l c h k) = absurd (omega (arith, c.1))
+
+concat_at : {G : Sc} {p : Place} {a : Bool} {e d : Ex} {f : Fault} → Own no_kind_faults G (node p a (concat e d)) f → (at f ≡ p) ⊎ ((at f ≡ place_of e) ⊎ (at f ≡ place_of d))
+concat_at (left_no_record h k) = inr (inl (form_at k))
+concat_at (right_no_record h k) = inr (inr (form_at k))
+concat_at (clash h k l m n) = inl (meets_at n)
+
+later_is_not_before : Earlier (byte 19) (byte 8) → ⊥
+later_is_not_before (inl h) = absurd (omega (arith, h))
+later_is_not_before (inr h) = absurd (omega (arith, h.1))
+
+not_before_clash : (f : Fault) → (at f ≡ byte 8) ⊎ ((at f ≡ byte 8) ⊎ (at f ≡ byte 19)) → Earlier (at f) (byte 8) → ⊥
+not_before_clash f (inl e) h = not_before f e h
+not_before_clash f (inr (inl e)) h = not_before f e h
+not_before_clash f (inr (inr e)) h = later_is_not_before (subst (λ q. Earlier q (byte 8)) e h)
+
+after_concat : {G : Sc} {p : Place} {a : Bool} {e d : Ex} → ((f : Fault) → Fails no_kind_faults G e f → ⊥) → ((f : Fault) → Fails no_kind_faults G d f → ⊥) → (q : Place) (H : Sc) (c : Ex) (f : Fault) → Sub G (node p a (concat e d)) H c → Fails no_kind_faults H c f → Earlier q (at f)
+after_concat l r q H c f left g = absurd (l f g)
+after_concat l r q H c f right g = absurd (r f g)
+
+a_row_kinded : Kinded basis_scope.kinds (type_row (pair (name a_name) int_type no_pairs)) (row_of types)
+a_row_kinded = of_row (a_row_field of_name (of_basic refl) no_row_fields) ((λ k d h. absurd (omega (arith, h))), tt)
+
+a_record_found : {p q r : Place} {z : ℤ} → Found basis_scope (node p false (fields_of (field q (name a_name) (node r false (number z)) no_fields))) (record_of (type_row (pair (name a_name) int_type no_pairs)))
+a_record_found = fields_have (field_found of_name number_has no_field_found) a_row_kinded
+
+they_clash : Touch [] (type_row (pair (name a_name) int_type no_pairs)) (type_row (pair (name a_name) int_type no_pairs)) (name a_name) (name a_name)
+they_clash = record {
+  m = type_row (pair (name a_name) int_type no_pairs);
+  n = type_row (pair (name a_name) int_type no_pairs);
+  normal = record { left = 100000; left' = 100000; first = refl; second = refl };
+  touch = in_first (this not_separated);
+}
+
+pub clash_told : SameNamesClash
+clash_told =
+    tells_own (clash a_record_found a_record_found refl refl (they_touch they_clash))
+    (λ f o h. not_before_clash f (concat_at o) h)
+    (after_concat (λ f g. literal_is_well g) (λ f g. literal_is_well g) (byte 8))

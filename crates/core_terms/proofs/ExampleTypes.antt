@@ -1,0 +1,51 @@
+-- The typings of the examples.
+use Rattle.std.proofs.Common.{◌≡◌, ℕ, zero, suc, ◌<◌, List, [], ◌∷◌, true, false, refl, arith}
+use Rattle.std.specs.List.{All}
+use Rattle.std.proofs.lemmas.List.Elements.{All-from_recursion}
+use Rattle.con_terms.specs.Trees.{types, row_of, Cn, var, basic, arrow, poly, guarded, record_of, app, lambda}
+use Rattle.con_terms.specs.Equal.{Equal, same, step, in_record, in_app, in_lambda, beta, map_map, mapped}
+use Rattle.con_terms.specs.Apart.{Guards, Separated, by_guard, has_piece, AllSeparated, Apart, apart}
+use Rattle.con_terms.specs.Kinded.{Kinded, of_var, of_basic, of_record, of_app, of_lambda, of_map}
+use Rattle.core_terms.specs.Types.{int_type}
+use Rattle.core_terms.specs.Trees.{Pt}
+use Rattle.core_terms.specs.Scopes.{Sc, under, under_con, under_guard}
+use Rattle.core_terms.specs.Cover.{Covers, TooLargeIn, ShapeOf, Shp, one_takes}
+use Rattle.core_terms.specs.Patterns.{PatTyped, of_binds}
+use Rattle.core_terms.specs.Typed.{Typed, by_equal, of_bound, of_fn, of_fn_con, of_call, of_ascribed, Applies, to_nothing, to_guard}
+use Rattle.core_terms.specs.ExampleTerms.{basis_scope, options, lists, option_lists, maps_twice, maps_once, called_x}
+use Rattle.core_terms.specs.ExampleTypings.{with_two_rows, GuardHoldsByAssumption, MapOfMapIsTyped}
+
+-- a variable takes every value
+nothing_large : (t : Cn) → TooLargeIn basis_scope.datatypes 0 t → ⊥
+nothing_large t h = elim h [ ]
+
+variable_covers : (t : Cn) → Covers basis_scope.datatypes (called_x t ∷ []) t
+variable_covers t = record { small = nothing_large t; taken = λ s h. refl }
+
+-- the guard
+assumed : (t : Cn) → Separated (with_two_rows t).kinds.guards (var 1) (var 0)
+assumed t = by_guard refl (0, omega arith, refl) (has_piece same (0, omega arith, refl)) (has_piece same (0, omega arith, refl))
+
+rows_apart : (t : Cn) → Apart (with_two_rows t).kinds.guards (var 1) (var 0)
+rows_apart t =
+    let gs = (with_two_rows t).kinds.guards in
+    apart same same (All-from_recursion (λ p. All (Separated gs p) (var 0 ∷ [])) (var 1 ∷ []) (All-from_recursion (Separated gs (var 1)) (var 0 ∷ []) (assumed t, tt), tt))
+
+pub guard_holds : GuardHoldsByAssumption
+guard_holds = of_call (of_bound refl) (to_guard (rows_apart (guarded (var 1) (var 0) int_type)) to_nothing)
+
+-- the map
+abbrev under_row : Sc
+under_row = under_con (row_of types) basis_scope
+
+options_kinded : Kinded under_row.kinds (mapped types types options (mapped types types lists (var 0))) (row_of types)
+options_kinded = of_app (of_app of_map (of_lambda (of_app (of_basic refl) (of_var refl)))) (of_app (of_app of_map (of_lambda (of_app (of_basic refl) (of_var refl)))) (of_var refl))
+
+once_kinded : Kinded under_row.kinds (maps_once (var 0)) types
+once_kinded = of_record (of_app (of_app of_map (of_lambda (of_app (of_basic refl) (of_app (of_basic refl) (of_var refl))))) (of_var refl))
+
+one_map : Equal (maps_twice (var 0)) (maps_once (var 0))
+one_map = in_record (step map_map (in_app (in_app same (in_lambda (step beta (in_app same beta)))) same))
+
+pub map_of_map_typed : MapOfMapIsTyped
+map_of_map_typed = of_fn_con (of_fn (of_record options_kinded) (of_binds (of_record options_kinded)) (variable_covers (maps_twice (var 0))) (of_ascribed (by_equal (of_bound refl) one_map once_kinded)))
