@@ -8,3 +8,4 @@ pub mod SplicedPage
 pub mod ExampleTypes
 pub mod ExampleFaults
 pub mod ExampleCover
+pub mod Stripping

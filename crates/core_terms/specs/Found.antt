@@ -16,7 +16,7 @@ use Rattle.core_terms.specs.Basis.{basis_type, fold_type}
 use Rattle.core_terms.specs.Datatypes.{datatype_of, constructor_type}
 use Rattle.core_terms.specs.Scopes.{Sc, under, under_con, under_guard, normal_of}
 use Rattle.core_terms.specs.Cover.{Covers}
-use Rattle.core_terms.specs.Markup.{in_body, context_row, holding, of_words, empty, a_form, an_input, a_button, stands, sort_of, attribute_type, Where}
+use Rattle.core_terms.specs.Markup.{in_body, context_row, MayBeInForm, holding, of_words, empty, a_form, an_input, a_button, stands, sort_of, attribute_type, Where}
 use Rattle.core_terms.specs.Typed.{branch_patterns, named_types, IsLinked, HasAttribute, NodesAreWords}
 use Rattle.core_terms.specs.Compared.{Alike, Disjoint, HasField, PicksAll}
 use Rattle.core_terms.specs.PatternFaults.{PatFound}
@@ -72,7 +72,7 @@ mutual
     name_found : {G H : Sc} {p : Place} {x : ℕ} {w : Bool} {t u : Cn} {e : Ex} {ns : Nms} → Kinded G.kinds t types → Found H e u → Alike t u → NamedFound G H ns → NamedFound G H (named p x w t e ns)
 
   pub data ElementFound : Sc → El → Cn → Type 0 where
-    holding_found : {G : Sc} {g : TagName} {w : Where} (o : Bool) {c u b : Cn} {as' : Ats} {xs : Xs} → sort_of g ≡ holding w → Alike (context_row (stands g) o) c → AttributesFound G u g as' → NodesFound G (context_row w o) u xs b → ElementFound G (tagged g None c u as' xs) (xml_of c u b)
+    holding_found : {G : Sc} {g : TagName} {w : Where} (o : Bool) {c u b : Cn} {as' : Ats} {xs : Xs} → sort_of g ≡ holding w → MayBeInForm (stands g) o → Alike (context_row (stands g) o) c → AttributesFound G u g as' → NodesFound G (context_row w o) u xs b → ElementFound G (tagged g None c u as' xs) (xml_of c u b)
     words_found : {G : Sc} {g : TagName} (o : Bool) {c u b : Cn} {as' : Ats} {xs : Xs} → sort_of g ≡ of_words → Alike (context_row (stands g) o) c → AttributesFound G u g as' → NodesAreWords xs → NodesFound G (context_row (stands g) o) u xs b → ElementFound G (tagged g None c u as' xs) (xml_of c u b)
     empty_found : {G : Sc} {g : TagName} (o : Bool) {c u : Cn} {as' : Ats} → sort_of g ≡ empty → Alike (context_row (stands g) o) c → Kinded G.kinds u (row_of types) → AttributesFound G u g as' → ElementFound G (tagged g None c u as' no_nodes) (xml_of c u no_types)
     form_found : {G : Sc} {g : TagName} {c u b : Cn} {as' : Ats} {xs : Xs} → sort_of g ≡ a_form → Alike (context_row in_body false) c → Alike no_types u → AttributesFound G u g as' → NodesFound G (context_row in_body true) no_types xs b → ElementFound G (tagged g None c u as' xs) (xml_of c u no_types)

@@ -33,3 +33,5 @@ pub mod Budget
 pub mod ExampleTerms
 pub mod ExampleRuns
 pub mod ExampleTypings
+pub mod StripLaw
+pub mod TypingLaws

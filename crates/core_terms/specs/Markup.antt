@@ -28,6 +28,12 @@ context_row in_table true = unit_row (table_context ∷ form_context ∷ [])
 context_row in_tr false = unit_row (tr_context ∷ [])
 context_row in_tr true = unit_row (tr_context ∷ form_context ∷ [])
 
+-- a form may be around nodes of this place: html and head have none
+abbrev pub MayBeInForm : Where → Bool → Type 0
+MayBeInForm in_html true = ⊥
+MayBeInForm in_head true = ⊥
+MayBeInForm _ _ = Unit {0}
+
 -- what a tag is, by what it holds
 pub data Sort : Type 0 where
   -- nodes of a place, with a form around them exactly where one is around the tag

@@ -28,7 +28,7 @@ use Rattle.core_terms.specs.Datatypes.{datatype_of}
 use Rattle.core_terms.specs.Scopes.{Sc, under, under_con, under_guard, normal_of}
 use Rattle.core_terms.specs.Cover.{Covers, Misses, TooLargeIn, patterns_depth, Shp}
 use Rattle.core_terms.specs.Carried.{ShowsPage, SendsForm}
-use Rattle.core_terms.specs.Markup.{in_body, context_row, holding, of_words, empty, a_form, an_input, a_button, stands, sort_of, attribute_type, Where}
+use Rattle.core_terms.specs.Markup.{in_body, context_row, MayBeInForm, holding, of_words, empty, a_form, an_input, a_button, stands, sort_of, attribute_type, Where}
 use Rattle.core_terms.specs.Typed.{branch_patterns, named_types, IsCallOf, IsLinked, HasAttribute, IsWords}
 use Rattle.core_terms.specs.Compared.{Alike, Differ, Large, Disjoint, Touch, HasField, LacksField, PicksAll}
 use Rattle.core_terms.specs.PatternFaults.{PatFound, PatFault}
@@ -163,6 +163,10 @@ pub data NotWords : Xs → Place → Type 0 where
 pub data ElementFault (K : KindFaults) : Sc → Place → El → Fault → Type 0 where
   stands_elsewhere : {G : Sc} {p : Place} {g : TagName} {n : Option Cn} {c u m k : Cn} {as' : Ats} {xs : Xs} → ((o : Bool) → Alike (context_row (stands g) o) c → ⊥) → Differ (context_row (stands g) false) c m k → ElementFault K G p (tagged g n c u as' xs) (mismatch p m k)
   form_in_form : {G : Sc} {p : Place} {g : TagName} {n : Option Cn} {c u m k : Cn} {as' : Ats} {xs : Xs} → sort_of g ≡ a_form → Differ (context_row in_body false) c m k → ElementFault K G p (tagged g n c u as' xs) (mismatch p m k)
+  input_outside : {G : Sc} {p : Place} {g : TagName} {n : Option Cn} {t c u m k : Cn} {as' : Ats} {xs : Xs} → sort_of g ≡ an_input t → Differ (context_row in_body true) c m k → ElementFault K G p (tagged g n c u as' xs) (mismatch p m k)
+  button_outside : {G : Sc} {p : Place} {g : TagName} {n : Option Cn} {c u m k : Cn} {as' : Ats} {xs : Xs} → sort_of g ≡ a_button → Differ (context_row in_body true) c m k → ElementFault K G p (tagged g n c u as' xs) (mismatch p m k)
+  large_context : {G : Sc} {p : Place} {g : TagName} {n : Option Cn} {c u : Cn} {as' : Ats} {xs : Xs} → Large (context_row (stands g) false) c → ElementFault K G p (tagged g n c u as' xs) (too_large p)
+  form_filled_before : {G : Sc} {p : Place} {g : TagName} {n : Option Cn} {c u : Cn} {as' : Ats} {xs : Xs} {f : Fault} → sort_of g ≡ a_form → Wants p no_types u f → ElementFault K G p (tagged g n c u as' xs) f
   uses_kind : {G : Sc} {p : Place} {g : TagName} {n : Option Cn} {c u : Cn} {as' : Ats} {xs : Xs} {f : Fault} → OfKind K G p u (row_of types) f → ElementFault K G p (tagged g n c u as' xs) f
   in_attributes : {G : Sc} {p : Place} {g : TagName} {n : Option Cn} {c u : Cn} {as' : Ats} {xs : Xs} {f : Fault} → AttributeFault G u g as' f → ElementFault K G p (tagged g n c u as' xs) f
   same_attribute : {G : Sc} {p : Place} {g : TagName} {n : Option Cn} {c u : Cn} {as' : Ats} {xs : Xs} {f : Fault} → AttributeTwice as' f → ElementFault K G p (tagged g n c u as' xs) f
@@ -173,7 +177,7 @@ pub data ElementFault (K : KindFaults) : Sc → Place → El → Fault → Type 
   input_holds_nothing : {G : Sc} {p : Place} {g : TagName} {n : Option Cn} {c u t v : Cn} {as' : Ats} {e : Ex} {xs : Xs} → sort_of g ≡ an_input v → Found G e t → ElementFault K G p (tagged g n c u as' (a_node e xs)) (mismatch (place_of e) unit_con t)
   button_holds_nothing : {G : Sc} {p : Place} {g : TagName} {n : Option Cn} {c u t : Cn} {as' : Ats} {e : Ex} {xs : Xs} → sort_of g ≡ a_button → Found G e t → ElementFault K G p (tagged g n c u as' (a_node e xs)) (mismatch (place_of e) unit_con t)
   no_words : {G : Sc} {p q : Place} {g : TagName} {n : Option Cn} {c u : Cn} {as' : Ats} {xs : Xs} → sort_of g ≡ of_words → NotWords xs q → ElementFault K G p (tagged g n c u as' xs) (mismatch q unit_con unit_con)
-  in_nodes : {G : Sc} {p : Place} {g : TagName} {n : Option Cn} {w : Where} (o : Bool) {c u : Cn} {as' : Ats} {xs : Xs} {f : Fault} → sort_of g ≡ holding w → Alike (context_row (stands g) o) c → NodeFault G (context_row w o) u xs f → ElementFault K G p (tagged g n c u as' xs) f
+  in_nodes : {G : Sc} {p : Place} {g : TagName} {n : Option Cn} {w : Where} (o : Bool) {c u : Cn} {as' : Ats} {xs : Xs} {f : Fault} → sort_of g ≡ holding w → MayBeInForm (stands g) o → Alike (context_row (stands g) o) c → NodeFault G (context_row w o) u xs f → ElementFault K G p (tagged g n c u as' xs) f
   in_title : {G : Sc} {p : Place} {g : TagName} {n : Option Cn} (o : Bool) {c u : Cn} {as' : Ats} {xs : Xs} {f : Fault} → sort_of g ≡ of_words → Alike (context_row (stands g) o) c → NodeFault G (context_row (stands g) o) u xs f → ElementFault K G p (tagged g n c u as' xs) f
   in_form_nodes : {G : Sc} {p : Place} {g : TagName} {n : Option Cn} {c u : Cn} {as' : Ats} {xs : Xs} {f : Fault} → sort_of g ≡ a_form → NodeFault G (context_row in_body true) no_types xs f → ElementFault K G p (tagged g n c u as' xs) f
   no_action : {G : Sc} {p : Place} {g : TagName} {n : Option Cn} {c u : Cn} {as' : Ats} {xs : Xs} → sort_of g ≡ a_button → (HasAttribute as' attr.Action → ⊥) → ElementFault K G p (tagged g n c u as' xs) (link_not_call p)

@@ -20,7 +20,7 @@ use Rattle.core_terms.specs.Datatypes.{datatype_of, constructor_type}
 use Rattle.core_terms.specs.Scopes.{Sc, under, under_con, under_guard}
 use Rattle.core_terms.specs.Patterns.{PatTyped}
 use Rattle.core_terms.specs.Cover.{Covers}
-use Rattle.core_terms.specs.Markup.{Where, in_body, context_row, holding, of_words, empty, a_form, an_input, a_button, stands, sort_of, attribute_type}
+use Rattle.core_terms.specs.Markup.{Where, in_body, context_row, MayBeInForm, holding, of_words, empty, a_form, an_input, a_button, stands, sort_of, attribute_type}
 use Rattle.core_terms.specs.Carried.{ShowsPage, SendsForm}
 
 -- the patterns of branches
@@ -138,7 +138,7 @@ mutual
 
   -- elements: the row of where they stand is that of their tag; what they hold fills fields, or an input fills its own
   pub data ElementTyped : Sc → El → Cn → Type 0 where
-    of_holding : {G : Sc} {g : TagName} {w : Where} (o : Bool) {c u b : Cn} {as' : Ats} {xs : Xs} → sort_of g ≡ holding w → Equal c (context_row (stands g) o) → AttributesTyped G u g as' → NodesTyped G (context_row w o) u xs b → ElementTyped G (tagged g None c u as' xs) (xml_of c u b)
+    of_holding : {G : Sc} {g : TagName} {w : Where} (o : Bool) {c u b : Cn} {as' : Ats} {xs : Xs} → sort_of g ≡ holding w → MayBeInForm (stands g) o → Equal c (context_row (stands g) o) → AttributesTyped G u g as' → NodesTyped G (context_row w o) u xs b → ElementTyped G (tagged g None c u as' xs) (xml_of c u b)
     of_words_alone : {G : Sc} {g : TagName} (o : Bool) {c u b : Cn} {as' : Ats} {xs : Xs} → sort_of g ≡ of_words → Equal c (context_row (stands g) o) → AttributesTyped G u g as' → NodesAreWords xs → NodesTyped G (context_row (stands g) o) u xs b → ElementTyped G (tagged g None c u as' xs) (xml_of c u b)
     of_empty : {G : Sc} {g : TagName} (o : Bool) {c u : Cn} {as' : Ats} → sort_of g ≡ empty → Equal c (context_row (stands g) o) → Kinded G.kinds u (row_of types) → AttributesTyped G u g as' → ElementTyped G (tagged g None c u as' no_nodes) (xml_of c u no_types)
     of_form : {G : Sc} {g : TagName} {c u b : Cn} {as' : Ats} {xs : Xs} → sort_of g ≡ a_form → Equal c (context_row in_body false) → Equal u no_types → AttributesTyped G u g as' → NodesTyped G (context_row in_body true) no_types xs b → ElementTyped G (tagged g None c u as' xs) (xml_of c u no_types)

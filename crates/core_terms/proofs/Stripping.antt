@@ -1,0 +1,109 @@
+-- What is left of a term has nothing inserted.
+use Rattle.std.proofs.Common.{◌≡◌, ℕ, Bool, true, false, refl, ap, ◌∙◌}
+use Rattle.con_terms.specs.Trees.{Kd, types, Cn, unit_con}
+use Rattle.con_terms.specs.declared.place.Place.{Place}
+use Rattle.core_terms.specs.Trees.{Pt, pattern, Pf, any, binds, is_number, is_text, is_bare, is_holding, has_fields, annotated, Pfs, no_pat_fields, pat_field, Ex, node, Fo, bound, top, foreign, basis, fold_over, number, text, built, fn, fn_con, fn_guard, call, let_in, case_of, ascribed, fields_of, select, concat, without, without_row, folder, element, Its, no_items, with_term, with_con, with_guard, Nms, no_named, named, Los, no_locals, local_val, local_rec, Brs, no_branches, branch, Fds, no_fields, field, El, tagged, Ats, no_attributes, attribute, Xs, no_nodes, a_node}
+use Rattle.core_terms.specs.Strip.{if_written, kind_if_written, strip_pattern, strip_pattern_form, strip_pattern_fields, keep_con, keep_guard, keep_term, was_added, strip, strip_form, strip_items, strip_named, strip_locals, strip_branches, strip_fields, strip_element, strip_attributes, strip_nodes}
+
+two : {A B C : Type 0} (f : A → B → C) {a a' : A} {b b' : B} → a ≡ a' → b ≡ b' → f a b ≡ f a' b'
+two f {a} {a'} {b} {b'} e g = ap (λ x. f x b) e ∙ ap (f a') g
+
+type_twice : (w : Bool) (t : Cn) → if_written w (if_written w t) ≡ if_written w t
+type_twice true t = refl
+type_twice false t = refl
+
+kind_twice : (w : Bool) (k : Kd) → kind_if_written w (kind_if_written w k) ≡ kind_if_written w k
+kind_twice true k = refl
+kind_twice false k = refl
+
+mutual
+  pattern_twice : (q : Pt) → strip_pattern (strip_pattern q) ≡ strip_pattern q
+  pattern_twice (pattern p f) = ap (pattern p) (pattern_form_twice f)
+
+  pattern_form_twice : (f : Pf) → strip_pattern_form (strip_pattern_form f) ≡ strip_pattern_form f
+  pattern_form_twice any = refl
+  pattern_form_twice (binds x w t) = ap (binds x w) (type_twice w t)
+  pattern_form_twice (is_number z) = refl
+  pattern_form_twice (is_text t) = refl
+  pattern_form_twice (is_bare s j) = refl
+  pattern_form_twice (is_holding s j q) = ap (is_holding s j) (pattern_twice q)
+  pattern_form_twice (has_fields fs more) = ap (λ gs. has_fields gs more) (pattern_fields_twice fs)
+  pattern_form_twice (annotated q t) = ap (λ r. annotated r t) (pattern_twice q)
+
+  pattern_fields_twice : (fs : Pfs) → strip_pattern_fields (strip_pattern_fields fs) ≡ strip_pattern_fields fs
+  pattern_fields_twice no_pat_fields = refl
+  pattern_fields_twice (pat_field p n q fs) = two (pat_field p n) (pattern_twice q) (pattern_fields_twice fs)
+
+-- an item that was written stays, another is gone
+con_kept : (p : Place) (a : Bool) (c : Cn) (is : Its) → strip_items is ≡ is → strip_items (keep_con p a c is) ≡ keep_con p a c is
+con_kept p true c is e = e
+con_kept p false c is e = ap (with_con p false c) e
+
+guard_kept : (p : Place) (a : Bool) (is : Its) → strip_items is ≡ is → strip_items (keep_guard p a is) ≡ keep_guard p a is
+guard_kept p true is e = e
+guard_kept p false is e = ap (with_guard p false) e
+
+mutual
+  pub strip_twice : (e : Ex) → strip (strip e) ≡ strip e
+  strip_twice (node p a f) = ap (node p a) (form_twice f)
+
+  form_twice : (f : Fo) → strip_form (strip_form f) ≡ strip_form f
+  form_twice (bound i) = refl
+  form_twice (top i) = refl
+  form_twice (foreign i) = refl
+  form_twice (basis b) = refl
+  form_twice (fold_over k) = refl
+  form_twice (number z) = refl
+  form_twice (text t) = refl
+  form_twice (built s j) = refl
+  form_twice (fn q w t e) = two (λ r u. fn r w u (strip (strip e))) (pattern_twice q) (type_twice w t) ∙ ap (fn (strip_pattern q) w (if_written w t)) (strip_twice e)
+  form_twice (fn_con x i w k e) = two (fn_con x i w) (kind_twice w k) (strip_twice e)
+  form_twice (fn_guard c d e) = ap (fn_guard c d) (strip_twice e)
+  form_twice (call f is) = two call (strip_twice f) (items_twice is)
+  form_twice (let_in ls e) = two let_in (locals_twice ls) (strip_twice e)
+  form_twice (case_of e p q d bs) =
+      two (λ x r. case_of x p r (strip (strip d)) (strip_branches (strip_branches bs))) (strip_twice e) (pattern_twice q)
+      ∙ two (case_of (strip e) p (strip_pattern q)) (strip_twice d) (branches_twice bs)
+  form_twice (ascribed e t) = ap (λ x. ascribed x t) (strip_twice e)
+  form_twice (fields_of fs) = ap fields_of (fields_twice fs)
+  form_twice (select e c) = ap (λ x. select x c) (strip_twice e)
+  form_twice (concat e d) = two concat (strip_twice e) (strip_twice d)
+  form_twice (without e c) = ap (λ x. without x c) (strip_twice e)
+  form_twice (without_row e c) = ap (λ x. without_row x c) (strip_twice e)
+  form_twice (folder k ps) = refl
+  form_twice (element m) = ap element (element_twice m)
+
+  items_twice : (is : Its) → strip_items (strip_items is) ≡ strip_items is
+  items_twice no_items = refl
+  items_twice (with_term (node p true f) is) = items_twice is
+  items_twice (with_term (node p false f) is) = two (λ g js. with_term (node p false g) js) (form_twice f) (items_twice is)
+  items_twice (with_con p a c is) = con_kept p a c (strip_items is) (items_twice is)
+  items_twice (with_guard p a is) = guard_kept p a (strip_items is) (items_twice is)
+
+  named_twice : (ns : Nms) → strip_named (strip_named ns) ≡ strip_named ns
+  named_twice no_named = refl
+  named_twice (named p x w t e ns) = two (λ u d. named p x w u d (strip_named (strip_named ns))) (type_twice w t) (strip_twice e) ∙ ap (named p x w (if_written w t) (strip e)) (named_twice ns)
+
+  locals_twice : (ls : Los) → strip_locals (strip_locals ls) ≡ strip_locals ls
+  locals_twice no_locals = refl
+  locals_twice (local_val p x w t e ls) = two (λ u d. local_val p x w u d (strip_locals (strip_locals ls))) (type_twice w t) (strip_twice e) ∙ ap (local_val p x w (if_written w t) (strip e)) (locals_twice ls)
+  locals_twice (local_rec ns ls) = two local_rec (named_twice ns) (locals_twice ls)
+
+  branches_twice : (bs : Brs) → strip_branches (strip_branches bs) ≡ strip_branches bs
+  branches_twice no_branches = refl
+  branches_twice (branch p q e bs) = two (λ r d. branch p r d (strip_branches (strip_branches bs))) (pattern_twice q) (strip_twice e) ∙ ap (branch p (strip_pattern q) (strip e)) (branches_twice bs)
+
+  fields_twice : (fs : Fds) → strip_fields (strip_fields fs) ≡ strip_fields fs
+  fields_twice no_fields = refl
+  fields_twice (field p n e fs) = two (field p n) (strip_twice e) (fields_twice fs)
+
+  element_twice : (m : El) → strip_element (strip_element m) ≡ strip_element m
+  element_twice (tagged g n c u as' xs) = two (tagged g n unit_con unit_con) (attributes_twice as') (nodes_twice xs)
+
+  attributes_twice : (as' : Ats) → strip_attributes (strip_attributes as') ≡ strip_attributes as'
+  attributes_twice no_attributes = refl
+  attributes_twice (attribute p n e as') = two (attribute p n) (strip_twice e) (attributes_twice as')
+
+  nodes_twice : (xs : Xs) → strip_nodes (strip_nodes xs) ≡ strip_nodes xs
+  nodes_twice no_nodes = refl
+  nodes_twice (a_node e xs) = two a_node (strip_twice e) (nodes_twice xs)
