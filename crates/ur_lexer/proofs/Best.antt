@@ -1,6 +1,6 @@
 -- The longest token at the front of a text, whatever number it holds.
-use Rattle.std.proofs.Common.{◌≡◌, ◌<◌, ◌≤◌, ◌+◌, ◌-◌, ℕ, zero, suc, Bool, true, false, List, [], ◌∷◌, length, take, drop, get_or, refl, sym, ap, ◌∙◌, subst, arith, Option, Some, None, length-drop}
-use Rattle.std.specs.Prelude.{◌&&◌, ◌||◌, ◌==◌, not, if◌then◌else◌}
+use Rattle.std.proofs.Common.{◌≡◌, ◌<◌, ◌+◌, ℕ, Bool, true, false, List, [], ◌∷◌, length, take, drop, get_or, refl, sym, ap, ◌∙◌, subst, arith, Option, Some, None, length-drop}
+use Rattle.std.specs.Prelude.{◌||◌, ◌==◌, not, if◌then◌else◌}
 use Rattle.std.specs.List.{list_all, prefix_len}
 use Rattle.std.specs.Char.{is_ascii_lowercase, is_ascii_uppercase, is_ascii_digit}
 use Rattle.std.proofs.lemmas.Bool.Decides.{nat_tests}
@@ -22,8 +22,8 @@ use Rattle.ur_lexer.specs.Markup.{run, closing}
 use Rattle.ur_lexer.specs.Ahead.{has_spaces}
 use Rattle.ur_lexer.specs.Modes.{in_literal}
 use Rattle.ur_lexer.specs.Where.{Where}
-use Rattle.ur_lexer.specs.Lexing.{IsName, IsInteger, IsString, IsSymbol, IsOpening, IsClosing, IsRun, Stands, lower_name, upper_name, attribute_name, integer, string, symbol, tag_symbol, opening, closing_tag, brace, run_of_text}
-use Rattle.ur_lexer.proofs.Choices.{either, and_left, and_right}
+use Rattle.ur_lexer.specs.Lexing.{IsName, IsInteger, IsString, IsSymbol, IsOpening, IsRun, Stands, lower_name, upper_name, attribute_name, integer, string, symbol, tag_symbol, opening, closing_tag, brace, run_of_text}
+use Rattle.ur_lexer.proofs.Choices.{either}
 use Rattle.ur_lexer.proofs.Runs.{all_within, run_passes, run_some, passes_at}
 use Rattle.ur_lexer.proofs.Symbols.{Best, best_from, symbol_found, symbol_stands, symbol_longest, symbol_first, falls}
 

@@ -1,5 +1,5 @@
 -- Steps inside comments.
-use Rattle.std.proofs.Common.{◌≡◌, ◌<◌, ◌≤◌, ℕ, zero, suc, ◌+◌, ◌-◌, Bool, true, false, List, [], ◌∷◌, length, drop, refl, ap, sym, ◌∙◌, Option, Some, None, option_map, arith, add_assoc, add-one}
+use Rattle.std.proofs.Common.{◌≡◌, ◌<◌, ℕ, zero, suc, ◌+◌, ◌-◌, true, false, [], ◌∷◌, length, drop, refl, ap, sym, ◌∙◌, Option, Some, None, option_map, arith, add_assoc, add-one}
 use Rattle.ur_lexer.specs.Bytes.{Bytes}
 use Rattle.ur_lexer.specs.Comments.{opens, closes, inside}
 

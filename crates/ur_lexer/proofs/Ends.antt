@@ -1,5 +1,5 @@
 -- Where blanks and tokens end, a text may be cut.
-use Rattle.std.proofs.Common.{◌≡◌, ◌<◌, ◌≤◌, ◌+◌, ◌-◌, ℕ, zero, suc, Bool, true, false, List, [], ◌∷◌, length, take, drop, get_or, refl, sym, ap, ◌∙◌, subst, arith, Option, Some, None, option_map, length-drop, length-take, get_or-drop}
+use Rattle.std.proofs.Common.{◌≡◌, ◌<◌, ◌≤◌, ◌+◌, ◌-◌, ℕ, zero, suc, Bool, true, false, [], ◌∷◌, length, take, drop, get_or, refl, sym, ap, ◌∙◌, subst, arith, Option, Some, None, length-drop, get_or-drop}
 use Rattle.std.specs.Prelude.{◌==◌, ◌&&◌, ◌||◌, not, if◌then◌else◌, nat_lt, nat_eq, IsUtf8, IsCharBoundary, codes}
 use Rattle.std.specs.List.{list_all, prefix_len}
 use Rattle.std.specs.Cmp.Lexicographic.{pointwise}
@@ -14,13 +14,13 @@ use Rattle.ur_lexer.specs.Words.{symbols, tag_symbols}
 use Rattle.ur_lexer.specs.Comments.{opens, closes, inside, comment}
 use Rattle.ur_lexer.specs.Strings.{Quoted, quoted, closed, unknown, open_, behind, behind_escape, escaped}
 use Rattle.ur_lexer.specs.Entities.{entity}
-use Rattle.ur_lexer.specs.Markup.{run, run_from, joined, after_entity, closing, closing_of, closing_end}
-use Rattle.ur_lexer.specs.Ahead.{at_comment, at_space}
+use Rattle.ur_lexer.specs.Markup.{run, run_from, closing, closing_of, closing_end}
+use Rattle.ur_lexer.specs.Ahead.{at_space}
 use Rattle.ur_lexer.specs.Where.{Where}
 use Rattle.ur_lexer.specs.Lexing.{IsBlank, a_comment, a_space, IsToken, Stands, lower_name, upper_name, attribute_name, integer, string, symbol, tag_symbol, opening, closing_tag, brace, run_of_text}
 use Rattle.ur_lexer.proofs.Choices.{either, mapped, by_test, by_option, and_left, and_right}
 use Rattle.ur_lexer.proofs.Cuts.{cut_behind, name_ascii, tag_ascii, attribute_ascii, digit_ascii}
-use Rattle.ur_lexer.proofs.EntitySteps.{Ends, entity_ends}
+use Rattle.ur_lexer.proofs.EntitySteps.{entity_ends}
 use Rattle.ur_lexer.proofs.Runs.{passes_at}
 use Rattle.ur_lexer.proofs.Symbols.{symbol_last}
 

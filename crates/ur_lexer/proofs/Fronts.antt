@@ -1,11 +1,10 @@
 -- What stands at the front of a text, case by case.
-use Rattle.std.proofs.Common.{◌≡◌, ◌<◌, ◌≤◌, ℕ, Bool, true, false, List, [], ◌∷◌, length, refl, sym, ◌∙◌, arith, Option, Some, None}
-use Rattle.std.specs.Prelude.{◌==◌, Result, Ok, Err}
+use Rattle.std.proofs.Common.{◌≡◌, ◌<◌, ℕ, true, false, length, refl, sym, ◌∙◌, arith}
+use Rattle.std.specs.Prelude.{◌==◌, Result, Ok}
 use Rattle.std.proofs.lemmas.Bool.Decides.{nat_tests}
 use Rattle.ur_lexer.specs.declared.fault.LexFault.{LexFault}
-use Rattle.ur_lexer.specs.declared.pieces.Found.{Found}
 use Rattle.ur_lexer.specs.declared.lexer.Ahead.{Ahead}
-use Rattle.ur_lexer.specs.declared.lexer.Ahead.TheVariants.{End, Blank, Word}
+use Rattle.ur_lexer.specs.declared.lexer.Ahead.TheVariants.{End, Blank}
 use Rattle.ur_lexer.specs.Bytes.{Bytes}
 use Rattle.ur_lexer.specs.Comments.{comment}
 use Rattle.ur_lexer.specs.Where.{Where}

@@ -1,3 +1,4 @@
+pub mod CodeTokens
 pub mod CommentSteps
 pub mod Choices
 pub mod Best

@@ -1,11 +1,11 @@
 -- What is found at the front of a text is what the definition says.
-use Rattle.std.proofs.Common.{◌≡◌, ◌<◌, ◌≤◌, ◌+◌, ◌-◌, ℕ, Bool, true, false, List, [], ◌∷◌, length, drop, get_or, refl, sym, ap, ◌∙◌, subst, arith, Option, Some, None}
-use Rattle.std.specs.Prelude.{◌==◌, ◌&&◌, if◌then◌else◌, nat_le, Result, Ok, Err, IsUtf8, IsCharBoundary}
+use Rattle.std.proofs.Common.{◌≡◌, ◌<◌, ◌≤◌, ℕ, Bool, true, false, [], ◌∷◌, length, drop, get_or, refl, sym, ap, ◌∙◌, subst, arith, Option, Some, None}
+use Rattle.std.specs.Prelude.{◌==◌, ◌&&◌, nat_le, Result, Ok, Err}
 use Rattle.std.proofs.lemmas.Bool.Decides.{nat_tests}
 use Rattle.surface_tree.specs.declared.token.Content.{Content}
 use Rattle.surface_tree.specs.declared.token.Content.TheVariants.{Nothing, Number, Characters}
 use Rattle.ur_lexer.specs.declared.fault.LexFault.{LexFault}
-use Rattle.ur_lexer.specs.declared.fault.LexFault.TheVariants.{BadChar, OpenText, OpenComment, IntTooLarge}
+use Rattle.ur_lexer.specs.declared.fault.LexFault.TheVariants.{BadChar, OpenComment, IntTooLarge}
 use Rattle.ur_lexer.specs.declared.pieces.Found.{Found}
 use Rattle.ur_lexer.specs.declared.lexer.Ahead.{Ahead}
 use Rattle.ur_lexer.specs.declared.lexer.Ahead.TheVariants.{End, Blank, Word}
@@ -17,10 +17,9 @@ use Rattle.ur_lexer.specs.Where.{Where}
 use Rattle.ur_lexer.specs.Modes.{in_literal}
 use Rattle.ur_lexer.specs.Ahead.{ahead_at, comment_ahead, word_ahead, token_at, has_spaces}
 use Rattle.ur_lexer.specs.Lexing.{Stands, NoBlank, IsLongest, IsHeld, IsToken, IsBlank, a_comment, a_space, IsFault, open_comment, too_large, open_text, bad_escape, bad_char}
-use Rattle.ur_lexer.proofs.Choices.{by_test, by_option, and_left, and_right}
-use Rattle.ur_lexer.proofs.Symbols.{Best}
-use Rattle.ur_lexer.proofs.Best.{best, best_in, best_longest, best_stands, string_found, spaced_string, true_eq, eq_true}
-use Rattle.ur_lexer.proofs.Settled.{checked, checked_content, missing, string_missing, settle, token_settles}
+use Rattle.ur_lexer.proofs.Choices.{by_test, and_left, and_right}
+use Rattle.ur_lexer.proofs.Best.{best, best_longest, best_stands, string_found, spaced_string, true_eq, eq_true}
+use Rattle.ur_lexer.proofs.Settled.{checked_content, missing, string_missing, settle, token_settles}
 use Rattle.ur_lexer.proofs.Fronts.{front_cases}
 
 Look : Type 0

@@ -1,5 +1,5 @@
 -- A text has one reading.
-use Rattle.std.proofs.Common.{◌≡◌, ◌<◌, ◌≤◌, ◌+◌, ℕ, zero, suc, List, [], ◌∷◌, length, drop, refl, sym, ap, ◌∙◌, subst, arith, length-drop}
+use Rattle.std.proofs.Common.{◌≡◌, ◌+◌, ℕ, List, [], ◌∷◌, drop, refl, sym, ap, ◌∙◌, subst}
 use Rattle.std.specs.Prelude.{Result, Ok, Err}
 use Rattle.surface_tree.specs.declared.token.Token.{Token}
 use Rattle.ur_lexer.specs.declared.fault.LexFault.{LexFault}
@@ -10,7 +10,7 @@ use Rattle.ur_lexer.specs.Bytes.{Bytes}
 use Rattle.ur_lexer.specs.Where.{Where}
 use Rattle.ur_lexer.specs.Modes.{start, turned}
 use Rattle.ur_lexer.specs.Ahead.{ahead_at}
-use Rattle.ur_lexer.specs.Lexing.{Piece, blank, word, Ending, at_end, at_fault, IsCut, IsBlank, IsToken, IsFault, tokens_of, Lexes}
+use Rattle.ur_lexer.specs.Lexing.{Piece, blank, word, Ending, at_end, at_fault, IsCut, tokens_of, Lexes}
 use Rattle.ur_lexer.proofs.Told.{end_ahead, blank_ahead, word_ahead_is, fault_ahead}
 
 abbrev Look : Type 0

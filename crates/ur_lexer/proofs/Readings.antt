@@ -1,6 +1,6 @@
 -- Readings of a text that grow token by token.
-use Rattle.std.proofs.Common.{◌≡◌, ◌<◌, ◌≤◌, ◌+◌, ◌++◌, ℕ, List, [], ◌∷◌, length, drop, refl, sym, ap, ◌∙◌, subst, append_assoc, append-nil, inl, inr}
-use Rattle.std.specs.Prelude.{Ok, Err, ◌⊎◌}
+use Rattle.std.proofs.Common.{◌≡◌, ◌+◌, ◌++◌, ℕ, List, [], ◌∷◌, drop, refl, sym, ◌∙◌, subst, append_assoc, append-nil, inl, inr}
+use Rattle.std.specs.Prelude.{◌⊎◌}
 use Rattle.surface_tree.specs.declared.token.Token.{Token}
 use Rattle.ur_lexer.specs.declared.fault.LexFault.{LexFault}
 use Rattle.ur_lexer.specs.declared.fault.LexFault.TheVariants.{BadChar, OpenText, OpenComment, IntTooLarge, Memory}

@@ -1,16 +1,15 @@
 -- Steps in runs of text.
-use Rattle.std.proofs.Common.{◌≡◌, ◌<◌, ◌≤◌, ℕ, zero, suc, ◌+◌, ◌-◌, Bool, true, false, List, [], ◌∷◌, ◌++◌, length, take, drop, get_or, refl, ap, sym, ◌∙◌, Option, Some, None, arith, add_assoc, append_assoc, append-nil, zero-add, subst}
-use Rattle.std.specs.Prelude.{◌==◌, ◌&&◌, ◌||◌, not, IsUtf8, IsCharBoundary}
+use Rattle.std.proofs.Common.{◌≡◌, ◌<◌, ◌≤◌, ℕ, zero, suc, ◌+◌, ◌-◌, Bool, true, false, [], ◌∷◌, ◌++◌, length, take, drop, get_or, refl, ap, sym, ◌∙◌, Some, arith, add_assoc, append_assoc, append-nil, subst}
+use Rattle.std.specs.Prelude.{◌==◌, ◌||◌, IsUtf8, IsCharBoundary}
 use Rattle.std.specs.List.{prefix_len}
 use Rattle.std.specs.Char.{encode_utf8}
 use Rattle.std.proofs.lemmas.Bool.Decides.{nat_tests}
-use Rattle.std.proofs.lemmas.List.Sums.{prefix_len_stops}
 use Rattle.ur_lexer.proofs.Cuts.{cut_behind}
-use Rattle.ur_lexer.proofs.EntitySteps.{Ends, entity_ends}
+use Rattle.ur_lexer.proofs.EntitySteps.{entity_ends}
 use Rattle.ur_lexer.specs.Bytes.{Bytes, is_in_text}
 use Rattle.ur_lexer.specs.Comments.{opens}
 use Rattle.ur_lexer.specs.Entities.{entity}
-use Rattle.ur_lexer.specs.Markup.{joined, run_from, after_entity}
+use Rattle.ur_lexer.specs.Markup.{joined, run_from}
 
 abbrev Run : Type 0
 Run = Bytes × ℕ

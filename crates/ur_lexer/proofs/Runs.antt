@@ -1,6 +1,5 @@
 -- Runs of bytes that pass a test.
-use Rattle.std.proofs.Common.{◌≡◌, ◌<◌, ◌≤◌, ◌+◌, ◌-◌, ℕ, zero, suc, Bool, true, false, List, [], ◌∷◌, length, take, drop, get_or, refl, sym, ap, ◌∙◌, subst, arith}
-use Rattle.std.specs.Prelude.{◌&&◌}
+use Rattle.std.proofs.Common.{◌≡◌, ◌<◌, ◌≤◌, ℕ, zero, suc, Bool, true, false, [], ◌∷◌, length, take, get_or, refl, subst, arith}
 use Rattle.std.specs.List.{prefix_len, list_all}
 use Rattle.ur_lexer.proofs.Choices.{and_left, and_right}
 use Rattle.ur_lexer.specs.Bytes.{Bytes}

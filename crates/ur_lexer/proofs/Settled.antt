@@ -1,5 +1,5 @@
 -- The token at the front of a text, from the longest token there.
-use Rattle.std.proofs.Common.{◌≡◌, ◌<◌, ◌≤◌, ◌+◌, ◌-◌, ℕ, zero, suc, Bool, true, false, List, [], ◌∷◌, length, take, drop, get_or, refl, sym, ap, ◌∙◌, subst, arith, Option, Some, None}
+use Rattle.std.proofs.Common.{◌≡◌, ◌+◌, ℕ, suc, Bool, true, false, List, [], ◌∷◌, length, take, drop, get_or, refl, arith, Option, Some, None}
 use Rattle.std.specs.Prelude.{◌&&◌, ◌||◌, ◌==◌, not, if◌then◌else◌, nat_le, nat_lt, nat_eq, Result, Ok, Err, codes}
 use Rattle.std.specs.List.{prefix_len}
 use Rattle.std.specs.Cmp.Lexicographic.{pointwise}
@@ -19,14 +19,14 @@ use Rattle.ur_lexer.specs.Bytes.{Bytes, begins_lower, is_name_byte, is_tag_name_
 use Rattle.ur_lexer.specs.Words.{keywords, upper_words, symbols, tag_symbols, word_kind, symbol_at}
 use Rattle.ur_lexer.specs.Numbers.{value_of, number_of}
 use Rattle.ur_lexer.specs.Strings.{Quoted, quoted, closed, unknown, open_, string_of, string_token}
-use Rattle.ur_lexer.specs.Code.{named_token, name_token, integer_of, integer_token, symbol_of, symbol_token, code_token, tag_token}
-use Rattle.ur_lexer.specs.Markup.{run, closing, closing_of, closing_end, or_bad, closing_token, opening_token, mark_token, run_of, run_token, text_token}
+use Rattle.ur_lexer.specs.Code.{named_token, name_token, integer_token, symbol_of, symbol_token, code_token, tag_token}
+use Rattle.ur_lexer.specs.Markup.{run, closing, closing_of, closing_end, or_bad, closing_token, opening_token, mark_token, run_token, text_token}
 use Rattle.ur_lexer.specs.Ahead.{has_spaces, token_in, token_at}
 use Rattle.ur_lexer.specs.Modes.{in_literal}
 use Rattle.ur_lexer.specs.Where.{Where}
-use Rattle.ur_lexer.proofs.Choices.{by_test, by_option}
+use Rattle.ur_lexer.proofs.Choices.{by_test}
 use Rattle.ur_lexer.proofs.Symbols.{symbol_found}
-use Rattle.ur_lexer.proofs.Best.{best_name, best_integer, string_found, best_opening, brace_token, run_token_of, run_found, best_code, best_tag, best_text, best_in, best}
+use Rattle.ur_lexer.proofs.Best.{best_name, best_integer, string_found, best_opening, run_found, best_code, best_tag, best_text, best_in, best}
 
 abbrev pub checked_content : ℕ → Found → Content → Result Found LexFault
 checked_content at token Nothing = Ok token

@@ -1,5 +1,5 @@
 -- Every text has a reading.
-use Rattle.std.proofs.Common.{◌≡◌, ◌<◌, ◌≤◌, ◌+◌, ◌-◌, ℕ, zero, suc, List, [], ◌∷◌, length, drop, refl, arith, length-drop}
+use Rattle.std.proofs.Common.{◌≡◌, ◌<◌, ◌≤◌, ◌+◌, ℕ, zero, suc, List, [], ◌∷◌, length, drop, refl, arith, length-drop}
 use Rattle.std.specs.Prelude.{Result, Ok, Err}
 use Rattle.surface_tree.specs.declared.token.Token.{Token}
 use Rattle.ur_lexer.specs.declared.fault.LexFault.{LexFault}

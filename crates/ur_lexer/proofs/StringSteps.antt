@@ -1,13 +1,13 @@
 -- Steps inside strings.
-use Rattle.std.proofs.Common.{◌≡◌, ◌<◌, ◌≤◌, ℕ, zero, suc, ◌+◌, ◌-◌, Bool, true, false, List, [], ◌∷◌, ◌++◌, length, take, drop, get_or, refl, ap, sym, ◌∙◌, Option, Some, None, arith, add_assoc, append_assoc, zero-add, subst}
-use Rattle.std.specs.Prelude.{◌==◌, ◌&&◌, not, IsUtf8, IsCharBoundary}
+use Rattle.std.proofs.Common.{◌≡◌, ◌<◌, ◌≤◌, ℕ, suc, ◌+◌, Bool, true, false, [], ◌∷◌, ◌++◌, length, take, drop, get_or, refl, ap, sym, ◌∙◌, Some, arith, add_assoc, append_assoc, zero-add, subst}
+use Rattle.std.specs.Prelude.{◌==◌, IsUtf8, IsCharBoundary}
 use Rattle.std.specs.List.{prefix_len}
 use Rattle.std.specs.Char.{encode_utf8}
 use Rattle.std.proofs.lemmas.Bool.Decides.{nat_tests}
 use Rattle.std.proofs.lemmas.List.Sums.{prefix_len_stops}
 use Rattle.ur_lexer.proofs.Cuts.{cut_behind}
 use Rattle.ur_lexer.specs.Bytes.{Bytes, is_in_string}
-use Rattle.ur_lexer.specs.Strings.{Quoted, closed, unknown, open_, behind, behind_escape, escaped, quoted}
+use Rattle.ur_lexer.specs.Strings.{Quoted, closed, unknown, open_, behind, escaped, quoted}
 
 closed_same : (a b : Bytes) (n m : ℕ) → a ≡ b → n ≡ m → closed a n ≡ closed b m
 closed_same a b n m p q = ap (λ (x : Bytes). closed x n) p ∙ ap (λ (k : ℕ). closed b k) q

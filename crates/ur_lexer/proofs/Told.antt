@@ -1,27 +1,24 @@
 -- What the definition says of the front of a text is what is found there.
-use Rattle.std.proofs.Common.{◌≡◌, ◌<◌, ◌≤◌, ◌+◌, ◌-◌, ℕ, Bool, true, false, List, [], ◌∷◌, length, drop, get_or, refl, sym, ap, ◌∙◌, subst, arith, Option, Some, None}
-use Rattle.std.specs.Prelude.{◌==◌, ◌&&◌, if◌then◌else◌, nat_le, Result, Ok, Err}
+use Rattle.std.proofs.Common.{◌≡◌, ◌<◌, ◌≤◌, ℕ, Bool, true, false, [], ◌∷◌, length, drop, get_or, refl, sym, ap, ◌∙◌, arith, Option, Some, None}
+use Rattle.std.specs.Prelude.{◌==◌, nat_le, Ok, Err}
 use Rattle.std.proofs.lemmas.Bool.Decides.{nat_tests}
 use Rattle.surface_tree.specs.declared.token.Content.{Content}
 use Rattle.surface_tree.specs.declared.token.Content.TheVariants.{Nothing, Number, Characters}
 use Rattle.ur_lexer.specs.declared.fault.LexFault.{LexFault}
-use Rattle.ur_lexer.specs.declared.fault.LexFault.TheVariants.{BadChar, OpenText, OpenComment, IntTooLarge}
+use Rattle.ur_lexer.specs.declared.fault.LexFault.TheVariants.{BadChar, IntTooLarge}
 use Rattle.ur_lexer.specs.declared.pieces.Found.{Found}
-use Rattle.ur_lexer.specs.declared.lexer.Ahead.{Ahead}
 use Rattle.ur_lexer.specs.declared.lexer.Ahead.TheVariants.{End, Blank, Word}
 use Rattle.ur_lexer.specs.declared.state.Mode.{Mode}
 use Rattle.ur_lexer.specs.declared.state.Mode.TheVariants.{Code, Tag, Text}
 use Rattle.ur_lexer.specs.Bytes.{Bytes}
-use Rattle.ur_lexer.specs.Comments.{comment}
 use Rattle.ur_lexer.specs.Strings.{Quoted, quoted, unknown, open_}
 use Rattle.ur_lexer.specs.Where.{Where}
 use Rattle.ur_lexer.specs.Modes.{in_literal}
-use Rattle.ur_lexer.specs.Ahead.{ahead_at, comment_ahead, word_ahead, token_at, has_spaces, at_comment, at_space}
-use Rattle.ur_lexer.specs.Lexing.{Stands, NoBlank, IsLongest, IsHeld, IsToken, IsBlank, a_comment, a_space, IsFault, open_comment, too_large, open_text, bad_escape, bad_char}
+use Rattle.ur_lexer.specs.Ahead.{ahead_at, comment_ahead, word_ahead, has_spaces, at_comment, at_space}
+use Rattle.ur_lexer.specs.Lexing.{NoBlank, IsLongest, IsHeld, IsToken, IsBlank, a_comment, a_space, IsFault, open_comment, too_large, open_text, bad_escape, bad_char}
 use Rattle.ur_lexer.proofs.Choices.{by_option}
-use Rattle.ur_lexer.proofs.Symbols.{Best}
 use Rattle.ur_lexer.proofs.Best.{best, best_longest, best_stands, string_found, spaced_string, eq_true}
-use Rattle.ur_lexer.proofs.Settled.{checked, checked_content, missing, string_missing, settle, token_settles}
+use Rattle.ur_lexer.proofs.Settled.{checked_content, missing, string_missing, settle, token_settles}
 use Rattle.ur_lexer.proofs.Fronts.{at_a_comment, at_a_space, at_the_end, at_a_token}
 
 no_comment_at_end : (now : Mode) → at_comment now [] ≡ false

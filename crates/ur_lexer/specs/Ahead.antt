@@ -1,5 +1,6 @@
--- What stands at the front of a text.
-use Rattle.std.specs.Prelude.{ℕ, Bool, true, false, List, [], ◌∷◌, ◌==◌, ◌&&◌, not, length, slice_index, Option, Some, None, Result, Ok, Err, if◌then◌else◌}
+-- What stands at the front of a text, as it is computed. What it is is said in Lexing, which takes from here where
+-- spaces and comments stand.
+use Rattle.std.specs.Prelude.{ℕ, Bool, true, false, ◌==◌, ◌&&◌, not, length, slice_index, Option, Some, None, Result, Ok, Err, if◌then◌else◌}
 use Rattle.ur_lexer.specs.declared.fault.LexFault.{LexFault}
 use Rattle.ur_lexer.specs.declared.fault.LexFault.TheVariants.{OpenComment}
 use Rattle.ur_lexer.specs.declared.pieces.Found.{Found}

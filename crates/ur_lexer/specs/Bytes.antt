@@ -1,6 +1,6 @@
 -- Kinds of bytes.
-use Rattle.std.specs.Prelude.{ℕ, Bool, true, false, not, List, ◌==◌, ◌||◌, ◌&&◌}
-use Rattle.std.specs.Char.{is_ascii_lowercase, is_ascii_uppercase, is_ascii_digit, is_ascii_alphanumeric}
+use Rattle.std.specs.Prelude.{ℕ, Bool, not, List, ◌==◌, ◌||◌, ◌&&◌}
+use Rattle.std.specs.Char.{is_ascii_lowercase, is_ascii_digit, is_ascii_alphanumeric}
 use Rattle.ur_lexer.specs.declared.classes.Class.{Class}
 use Rattle.ur_lexer.specs.declared.classes.Class.TheVariants.{Name, TagName, AttributeName, Digit, Space, InString, InText}
 

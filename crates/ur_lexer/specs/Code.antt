@@ -1,10 +1,10 @@
--- The tokens of code, and those of a tag.
-use Rattle.std.specs.Prelude.{ℕ, List, [], ◌∷◌, ◌==◌, length, take, slice_index, Option, Some, None, Result, Ok, Err, if◌then◌else◌}
+-- The tokens of code, and those of a tag, as they are computed by their first byte. What they are is said in Lexing,
+-- which takes from here how a name of a table is made.
+use Rattle.std.specs.Prelude.{ℕ, List, [], ◌==◌, length, take, slice_index, Option, Some, None, Result, Ok, Err, if◌then◌else◌}
 use Rattle.std.specs.List.{prefix_len}
 use Rattle.std.specs.Char.{is_ascii_lowercase, is_ascii_uppercase, is_ascii_digit}
 use Rattle.surface_tree.specs.declared.kind.Kind.{Kind}
 use Rattle.surface_tree.specs.declared.kind.Kind.TheVariants.{LowerName, UpperName, Integer, AttributeName}
-use Rattle.surface_tree.specs.declared.token.Content.{Content}
 use Rattle.surface_tree.specs.declared.token.Content.TheVariants.{Nothing, Number, Characters}
 use Rattle.ur_lexer.specs.declared.fault.LexFault.{LexFault}
 use Rattle.ur_lexer.specs.declared.fault.LexFault.TheVariants.{BadChar, IntTooLarge}

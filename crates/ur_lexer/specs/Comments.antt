@@ -1,5 +1,5 @@
 -- Comments, which nest.
-use Rattle.std.specs.Prelude.{ℕ, zero, suc, ◌+◌, Bool, true, false, [], ◌∷◌, drop, Option, Some, None, ◌==◌, ◌&&◌, if◌then◌else◌, option_map}
+use Rattle.std.specs.Prelude.{ℕ, zero, suc, ◌+◌, Bool, false, [], ◌∷◌, drop, Option, Some, None, ◌==◌, ◌&&◌, if◌then◌else◌, option_map}
 use Rattle.ur_lexer.specs.Bytes.{Bytes}
 
 -- the bytes begin with `(*`

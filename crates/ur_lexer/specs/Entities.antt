@@ -1,13 +1,13 @@
 -- Entities.
-use Rattle.std.specs.Prelude.{ℕ, ◌+◌, Bool, true, false, List, [], ◌∷◌, length, take, drop, map, Option, Some, None, ◌==◌, ◌&&◌, ◌||◌, not, if◌then◌else◌, nat_eq, nat_lt, nat_le, slice_index, option_and_then, option_map}
+use Rattle.std.specs.Prelude.{ℕ, ◌+◌, Bool, List, [], ◌∷◌, length, take, Option, Some, None, ◌==◌, ◌&&◌, ◌||◌, not, if◌then◌else◌, nat_eq, nat_lt, nat_le, slice_index, option_and_then, option_map, codes}
 use Rattle.std.specs.List.{starts_with, prefix_len}
 use Rattle.std.specs.Char.{is_ascii_digit}
-use Rattle.ur_lexer.specs.declared.words.TheConstants.{ENTITIES}
 use Rattle.ur_lexer.specs.Bytes.{Bytes}
 use Rattle.ur_lexer.specs.Numbers.{number_of}
 
+-- the named entities, each with the character that it stands for
 abbrev pub entities : List (Bytes × ℕ)
-entities = map (λ e. (e.0.now, e.1)) ENTITIES
+entities = (codes "&lt;", 60) ∷ (codes "&gt;", 62) ∷ (codes "&amp;", 38) ∷ (codes "&quot;", 34) ∷ (codes "&nbsp;", 160) ∷ []
 
 -- the character of a named entity at the front, and its length
 abbrev pub named : List (Bytes × ℕ) → Bytes → Option (ℕ × ℕ)

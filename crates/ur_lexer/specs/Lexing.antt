@@ -1,5 +1,5 @@
 -- Lexing: a text is cut into blanks and tokens, each token the longest that could begin at its place.
-use Rattle.std.specs.Prelude.{◌≡◌, ◌<◌, ◌≤◌, ℕ, ◌+◌, ◌-◌, Bool, true, false, List, [], ◌∷◌, length, take, drop, slice_index, Option, Some, None, Ok, nat_eq, ◌⊎◌}
+use Rattle.std.specs.Prelude.{◌≡◌, ◌<◌, ◌≤◌, ℕ, ◌+◌, Bool, true, false, List, [], ◌∷◌, length, take, drop, slice_index, Some, None, nat_eq, ◌⊎◌}
 use Rattle.std.specs.List.{list_all, starts_with}
 use Rattle.std.specs.Char.{is_ascii_lowercase, is_ascii_uppercase, is_ascii_digit}
 use Rattle.surface_tree.specs.declared.kind.Kind.{Kind}

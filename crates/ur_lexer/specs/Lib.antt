@@ -1,13 +1,13 @@
+pub mod Bytes
 pub mod Where
 pub mod Modes
-pub mod Bytes
 pub mod Words
 pub mod Numbers
 pub mod Comments
 pub mod Entities
 pub mod Strings
-pub mod Results
-pub mod Code
 pub mod Markup
-pub mod Ahead
 pub mod Lexing
+pub mod Code
+pub mod Ahead
+pub mod Results

@@ -1,5 +1,6 @@
--- The tokens between tags.
-use Rattle.std.specs.Prelude.{◌≡◌, ◌<◌, IsCharBoundary, ℕ, zero, suc, ◌+◌, ◌-◌, Bool, true, false, List, [], ◌∷◌, ◌++◌, ◌==◌, ◌&&◌, ◌||◌, not, length, take, drop, slice_index, Option, Some, None, Result, Ok, Err, if◌then◌else◌, nat_eq, nat_lt, codes}
+-- The tokens between tags: runs of text and closing tags. The functions that end in `_token` are computed forms; what
+-- the tokens are is said in Lexing.
+use Rattle.std.specs.Prelude.{◌≡◌, ◌<◌, IsCharBoundary, ℕ, zero, suc, ◌+◌, ◌-◌, Bool, [], ◌∷◌, ◌++◌, ◌==◌, ◌&&◌, ◌||◌, not, length, take, drop, slice_index, Option, Some, None, Result, Ok, Err, if◌then◌else◌, nat_eq, nat_lt, codes}
 use Rattle.std.specs.List.{prefix_len}
 use Rattle.std.specs.Cmp.Lexicographic.{pointwise}
 use Rattle.std.specs.Char.{is_ascii_lowercase, encode_utf8}

@@ -1,4 +1,4 @@
--- Strings.
+-- Strings: what stands behind the quote that opens one.
 use Rattle.std.specs.Prelude.{◌≡◌, ◌<◌, length, take, IsCharBoundary, ℕ, ◌+◌, [], ◌∷◌, ◌++◌, drop, Option, Some, None, Result, Ok, Err, ◌==◌, if◌then◌else◌}
 use Rattle.std.specs.Char.{encode_utf8}
 use Rattle.surface_tree.specs.declared.kind.Kind.TheVariants.{StringLiteral}

@@ -1,6 +1,3 @@
-use Rattle.std.proofs.Common.{◌≡◌, ap, ◌∙◌, List, ℕ}
-use Rattle.std.specs.List.{prefix_len}
-use Rattle.ur_lexer.specs.Bytes.{has}
 use Rattle.ur_lexer.proofs.Cuts.{cut_narrow}
 use Rattle.ur_lexer.proofs.code.name_token.Goals as goal
 

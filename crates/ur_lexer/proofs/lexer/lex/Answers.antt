@@ -1,16 +1,9 @@
-use Rattle.std.proofs.Common.{rules, ◌≡◌, ◌<◌, ◌≤◌, ◌+◌, ◌-◌, ◌++◌, ◌∷◌, [], List, ℕ, length, drop, refl, sym, ap, ◌∙◌, arith, length-drop, Ok, Err}
+use Rattle.std.proofs.Common.{◌≡◌, ◌≤◌, ◌-◌, length, sym, ap, ◌∙◌, arith, length-drop}
 use Rattle.std.proofs.lemmas.Result.{err_from_is_err_and}
-use Rattle.std.specs.Prelude.{Result}
-use Rattle.surface_tree.specs.declared.token.Token.{Token}
-use Rattle.ur_lexer.specs.declared.fault.LexFault.{LexFault}
-use Rattle.ur_lexer.specs.declared.lexer.Ahead.{Ahead}
-use Rattle.ur_lexer.specs.declared.lexer.Ahead.TheVariants.{End, Blank, Word}
-use Rattle.ur_lexer.specs.Ahead.{ahead_at}
-use Rattle.ur_lexer.specs.Modes.{start, turned}
 use Rattle.ur_lexer.specs.Lexing.{IsBlank, IsToken}
 use Rattle.ur_lexer.proofs.Ends.{blank_cut, token_cut}
 use Rattle.ur_lexer.proofs.Meaning.{ahead_end, ahead_blank, ahead_word}
-use Rattle.ur_lexer.proofs.Readings.{grows_start, grows_blank, grows_word, lexes_end, told, only_memory, that_fault, not_both, placed}
+use Rattle.ur_lexer.proofs.Readings.{grows_start, grows_blank, grows_word, lexes_end, told, only_memory, that_fault, not_both}
 use Rattle.ur_lexer.proofs.lexer.lex.Goals as goal
 
 pub steps-init : goal.steps-init

@@ -1,6 +1,5 @@
-use Rattle.std.proofs.Common.{◌≡◌, ◌≤◌, ◌+◌, ◌-◌, ◌++◌, length, List}
+use Rattle.std.proofs.Common.{◌≡◌, ◌≤◌, ◌-◌, ◌++◌, length, List}
 use Rattle.std.specs.Prelude.{IsUtf8}
-use Rattle.surface_tree.specs.declared.token.Token.{Token}
 use Rattle.ur_lexer.specs.Lexing.{Piece, Ending, IsCut, tokens_of}
 use Rattle.ur_lexer.specs.Modes.{start}
 use Rattle.ur_lexer.proofs.lexer.lex.Given as goal

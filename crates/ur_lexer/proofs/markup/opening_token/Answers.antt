@@ -1,4 +1,3 @@
-use Rattle.std.proofs.Common.{◌≡◌}
 use Rattle.ur_lexer.specs.declared.classes.Class.TheVariants.{TagName}
 use Rattle.ur_lexer.proofs.Cuts.{cut_narrow}
 use Rattle.ur_lexer.proofs.markup.opening_token.Goals as goal

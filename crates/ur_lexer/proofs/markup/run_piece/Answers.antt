@@ -1,4 +1,4 @@
-use Rattle.std.proofs.Common.{rules, ◌≡◌, ◌<◌, ◌≤◌, ℕ, List, length, get_or, arith, ap, subst, Some, true, false}
+use Rattle.std.proofs.Common.{rules, ◌≡◌, ◌<◌, length, arith, ap, Some, false}
 use Rattle.std.specs.List.{prefix_len}
 use Rattle.ur_lexer.specs.Bytes.{is_in_text}
 use Rattle.ur_lexer.specs.Comments.{opens}

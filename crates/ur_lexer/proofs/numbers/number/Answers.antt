@@ -1,5 +1,5 @@
-use Rattle.std.proofs.Common.{rules, ◌≡◌, ◌<◌, ◌≤◌, length, ℕ, suc, ◌+◌, ◌-◌, ◌*◌, drop, get_or, arith, sym, ap, ◌∙◌, Some, None}
-use Rattle.ur_lexer.specs.Numbers.{value_from, number_of}
+use Rattle.std.proofs.Common.{◌≡◌, suc, ◌+◌, ◌-◌, ◌*◌, drop, get_or, arith, sym, ap, ◌∙◌, Some}
+use Rattle.ur_lexer.specs.Numbers.{value_from}
 use Rattle.ur_lexer.proofs.Values.{value_grows, value_step, value_end, number_small, number_large}
 use Rattle.ur_lexer.proofs.numbers.number.Goals as goal
 

@@ -1,7 +1,6 @@
-use Rattle.std.proofs.Common.{rules, ◌≡◌, ◌<◌, ◌≤◌, ℕ, List, length, get_or, arith, ap, subst, Some}
+use Rattle.std.proofs.Common.{◌≡◌, length, arith, ap}
 use Rattle.std.specs.List.{prefix_len}
 use Rattle.ur_lexer.specs.Bytes.{is_in_string}
-use Rattle.ur_lexer.specs.Strings.{escaped}
 use Rattle.ur_lexer.proofs.Cuts.{cut_string}
 use Rattle.ur_lexer.proofs.StringSteps.{quoted_plain, quoted_escape}
 use Rattle.ur_lexer.proofs.strings.string_piece.Goals as goal
