@@ -1,24 +1,23 @@
 -- That a match on an option which takes Some alone misses None, and has nothing else at fault before.
-use Rattle.std.proofs.Common.{◌≡◌, ℕ, zero, suc, ◌<◌, Bool, true, false, List, [], ◌∷◌, ◌++◌, Option, Some, None, refl, arith, sym, ◌∙◌, subst, ◌⊎◌, inl, inr}
-use Rattle.std.specs.Prelude.{slice_get}
-use Rattle.con_terms.specs.Trees.{types, Cn, var, basic, app}
-use Rattle.con_terms.specs.Kinded.{Kinded, of_basic}
+use Rattle.std.proofs.Common.{◌≡◌, ℕ, Bool, false, List, [], ◌∷◌, Some, refl, arith, sym, subst, ◌⊎◌, inl, inr}
+use Rattle.con_terms.specs.Trees.{Cn, var}
+use Rattle.con_terms.specs.Kinded.{of_basic}
 use Rattle.con_terms.specs.declared.place.Place.{Place}
 use Rattle.core_terms.specs.Names.{option_name, some_name}
-use Rattle.core_terms.specs.Datatypes.{constructor_of, basis_datatypes}
+use Rattle.core_terms.specs.Datatypes.{constructor_of}
 use Rattle.core_terms.specs.Types.{int_type}
-use Rattle.core_terms.specs.Trees.{Pt, pattern, binds, is_holding, Ex, node, bound, case_of, no_branches}
+use Rattle.core_terms.specs.Trees.{Pt, pattern, binds, Ex, node, bound}
 use Rattle.core_terms.specs.Scopes.{Sc, under}
 use Rattle.core_terms.specs.Cover.{Shp, bare_shape, Misses, TooLargeIn, in_held, in_field, of_bare}
 use Rattle.core_terms.specs.Cover as cover
-use Rattle.core_terms.specs.Faults.{Fault, inexhaustive, at, Earlier}
+use Rattle.core_terms.specs.Faults.{Fault, at, Earlier}
 use Rattle.core_terms.specs.Compared.{Alike}
 use Rattle.core_terms.specs.PatternFaults.{Constructs, AtData, PatFound, holding_binds, binds_one, PatFault, bad_kind, other_type, large_type, no_holding, other_holding, large_holding, holds_less}
 use Rattle.core_terms.specs.PatternFaults as faults
-use Rattle.core_terms.specs.Found.{Found, bound_has}
-use Rattle.core_terms.specs.Own.{Own, place_of, first_pattern, a_later_pattern, branches_differ, not_covered, Uncovered, misses, large_part, PatsFound, no_pats, a_pat}
-use Rattle.core_terms.specs.Tells.{Tells, tells_own, Sub, what_is_matched, first_branch, later_branch, InBranches, Fails}
-use Rattle.core_terms.specs.ExampleTerms.{byte, x_name, without_none, option_int, some_pattern, basis_scope}
+use Rattle.core_terms.specs.Found.{bound_has}
+use Rattle.core_terms.specs.Own.{Own, first_pattern, a_later_pattern, branches_differ, not_covered, Uncovered, misses, large_part, no_pats, a_pat}
+use Rattle.core_terms.specs.Tells.{tells_own, Sub, what_is_matched, first_branch, later_branch, Fails}
+use Rattle.core_terms.specs.ExampleTerms.{byte, without_none, option_int, some_pattern, basis_scope}
 use Rattle.core_terms.specs.ExampleTypings.{no_kind_faults, NoneIsMissed}
 use Rattle.core_terms.proofs.ExampleFaults.{not_before, no_some, bound_is_well}
 

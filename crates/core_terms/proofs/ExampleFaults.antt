@@ -1,21 +1,20 @@
 -- What the examples have at fault, and that nothing stands before it.
-use Rattle.std.proofs.Common.{◌≡◌, ℕ, zero, suc, ◌<◌, ℤ, Bool, true, false, List, [], ◌∷◌, ◌++◌, Option, Some, None, refl, arith, ap, sym, ◌∙◌, subst, ◌⊎◌, inl, inr}
+use Rattle.std.proofs.Common.{◌≡◌, ℕ, ℤ, Bool, false, [], Option, Some, None, refl, arith, sym, ◌∙◌, subst, ◌⊎◌, inl, inr}
 use Rattle.std.specs.Prelude.{slice_get}
-use Rattle.con_terms.specs.Trees.{types, names, row_of, Cn, var, basic, app, record_of, cat, name, row, no_pairs, pair}
+use Rattle.con_terms.specs.Trees.{types, row_of, Cn, var, record_of, cat, name, no_pairs, pair}
 use Rattle.con_terms.specs.Apart.{Separated, names_differ, by_guard, by_guard_turned}
-use Rattle.con_terms.specs.Kinded.{Kinded, of_var, of_basic, of_app, of_record, of_row, of_name, no_fields as no_row_fields, a_field as a_row_field}
+use Rattle.con_terms.specs.Kinded.{Kinded, of_var, of_basic, of_record, of_row, of_name, no_fields as no_row_fields, a_field as a_row_field}
 use Rattle.con_terms.specs.declared.place.Place.{Place}
-use Rattle.core_terms.specs.Names.{option_name}
 use Rattle.core_terms.specs.Types.{int_type, type_row}
-use Rattle.core_terms.specs.Trees.{Pt, pattern, Pf, binds, is_holding, Ex, node, Fo, bound, number, ascribed, concat, fields_of, field, no_fields, case_of, no_branches, Brs}
-use Rattle.core_terms.specs.Scopes.{Sc, under}
-use Rattle.core_terms.specs.Faults.{Fault, mismatch, not_disjoint, inexhaustive, too_large, at, Earlier}
-use Rattle.core_terms.specs.Compared.{Differ, Large, Touch, in_first, this}
+use Rattle.core_terms.specs.Trees.{Ex, node, bound, number, ascribed, concat, fields_of, field, no_fields}
+use Rattle.core_terms.specs.Scopes.{Sc}
+use Rattle.core_terms.specs.Faults.{Fault, at, Earlier}
+use Rattle.core_terms.specs.Compared.{Differ, Touch, in_first, this}
 use Rattle.core_terms.specs.Found.{Found, bound_has, number_has, fields_have, no_field_found, field_found}
-use Rattle.core_terms.specs.Own.{Own, Wants, other, large, NotOf, other_form, large_form, Meets, they_touch, they_are_large, place_of, no_variable, written_kind, not_as_written, left_no_record, right_no_record, clash, a_field, same_names, FieldFault, field_kind, later_field}
-use Rattle.core_terms.specs.Tells.{Tells, tells_own, Sub, with_type, left, right, field_term, InFields, this_field, past_field, Fails, itself, inside}
-use Rattle.core_terms.specs.ExampleTerms.{byte, too_many_fields, a_name, x_name, clashing, without_none, option_int, some_pattern, basis_scope}
-use Rattle.core_terms.specs.ExampleTypings.{with_two_rows, no_kind_faults, MoreFieldsMismatch, SameNamesClash}
+use Rattle.core_terms.specs.Own.{Own, Wants, other, large, NotOf, other_form, large_form, Meets, they_touch, they_are_large, place_of, no_variable, written_kind, not_as_written, left_no_record, right_no_record, clash, a_field, same_names, field_kind, later_field}
+use Rattle.core_terms.specs.Tells.{tells_own, Sub, with_type, left, right, field_term, this_field, past_field, Fails, itself, inside}
+use Rattle.core_terms.specs.ExampleTerms.{byte, a_name, basis_scope}
+use Rattle.core_terms.specs.ExampleTypings.{no_kind_faults, MoreFieldsMismatch, SameNamesClash}
 
 not_before_itself : (p : Place) → Earlier p p → ⊥
 not_before_itself p (inl h) = absurd (omega (arith, h))

@@ -1,18 +1,17 @@
 -- The typings of the examples.
-use Rattle.std.proofs.Common.{◌≡◌, ℕ, zero, suc, ◌<◌, List, [], ◌∷◌, true, false, refl, arith}
+use Rattle.std.proofs.Common.{[], ◌∷◌, refl, arith}
 use Rattle.std.specs.List.{All}
 use Rattle.std.proofs.lemmas.List.Elements.{All-from_recursion}
-use Rattle.con_terms.specs.Trees.{types, row_of, Cn, var, basic, arrow, poly, guarded, record_of, app, lambda}
+use Rattle.con_terms.specs.Trees.{types, row_of, Cn, var, guarded}
 use Rattle.con_terms.specs.Equal.{Equal, same, step, in_record, in_app, in_lambda, beta, map_map, mapped}
-use Rattle.con_terms.specs.Apart.{Guards, Separated, by_guard, has_piece, AllSeparated, Apart, apart}
+use Rattle.con_terms.specs.Apart.{Separated, by_guard, has_piece, Apart, apart}
 use Rattle.con_terms.specs.Kinded.{Kinded, of_var, of_basic, of_record, of_app, of_lambda, of_map}
 use Rattle.core_terms.specs.Types.{int_type}
-use Rattle.core_terms.specs.Trees.{Pt}
-use Rattle.core_terms.specs.Scopes.{Sc, under, under_con, under_guard}
-use Rattle.core_terms.specs.Cover.{Covers, TooLargeIn, ShapeOf, Shp, one_takes}
-use Rattle.core_terms.specs.Patterns.{PatTyped, of_binds}
-use Rattle.core_terms.specs.Typed.{Typed, by_equal, of_bound, of_fn, of_fn_con, of_call, of_ascribed, Applies, to_nothing, to_guard}
-use Rattle.core_terms.specs.ExampleTerms.{basis_scope, options, lists, option_lists, maps_twice, maps_once, called_x}
+use Rattle.core_terms.specs.Scopes.{Sc, under_con}
+use Rattle.core_terms.specs.Cover.{Covers, TooLargeIn}
+use Rattle.core_terms.specs.Patterns.{of_binds}
+use Rattle.core_terms.specs.Typed.{by_equal, of_bound, of_fn, of_fn_con, of_call, of_ascribed, to_nothing, to_guard}
+use Rattle.core_terms.specs.ExampleTerms.{basis_scope, options, lists, maps_twice, maps_once, called_x}
 use Rattle.core_terms.specs.ExampleTypings.{with_two_rows, GuardHoldsByAssumption, MapOfMapIsTyped}
 
 -- a variable takes every value

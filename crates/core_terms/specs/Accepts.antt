@@ -1,10 +1,10 @@
 -- Which programs are accepted.
-use Rattle.std.specs.Prelude.{◌≡◌, ◌≢◌, ℕ, ◌<◌, Bool, List, [], ◌∷◌, ◌++◌, map, length, Option, Some, None, slice_get, take}
+use Rattle.std.specs.Prelude.{◌≡◌, ◌≢◌, ℕ, ◌<◌, Bool, [], map, length, take}
 use Rattle.std.specs.List.{All}
 use Rattle.link_router.specs.Calls.{Ent}
 use Rattle.core_terms.specs.Names.{basis_texts}
 use Rattle.core_terms.specs.Trees.{Dt, Pg}
-use Rattle.core_terms.specs.Declarations.{DeclsTyped, Distinct, datatypes, values}
+use Rattle.core_terms.specs.Declarations.{DeclsTyped, Distinct, values}
 use Rattle.core_terms.specs.Entries.{IsEntry, all_datatypes}
 
 -- What a program is built as, by whoever builds it: its symbols begin with those of the basis, no two datatypes have one symbol, and what it exports is there.

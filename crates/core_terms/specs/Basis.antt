@@ -1,6 +1,6 @@
 -- The values that every program has, with their types.
 -- The Ur/Web Manual, "The Ur Standard Library" and "The Ur/Web Standard Library"; the order of implicit arguments and guards is this project's own.
-use Rattle.std.specs.Prelude.{ℕ, List, [], ◌∷◌, true, false}
+use Rattle.std.specs.Prelude.{ℕ, [], ◌∷◌, true, false}
 use Rattle.con_terms.specs.Trees.{Kd, types, units, names, row_of, to, Cn, var, basic, arrow, poly, guarded, app, unit_con, row, cat, no_pairs, pair}
 use Rattle.core_terms.specs.declared.basis.BasisName.{BasisName}
 use Rattle.core_terms.specs.declared.basis.BasisName.TheVariants.{Return, Bind, Error, Not, Strcat, Plus, Minus, Times, Divide, Mod, Neg, Eq, Ne, Lt, Le, Show, MkShow, MkEq, Txt, Cdata, Join, Bless, NumInt, ShowInt, ShowString, ShowBool, EqInt, EqString, EqBool, OrdInt, OrdString, OrdBool}

@@ -1,5 +1,5 @@
 -- Which types' values a link, a form or a cookie can carry.
-use Rattle.std.specs.Prelude.{◌≡◌, ℕ, suc, List, [], ◌∷◌, length, Option, Some, None, ◌⊎◌}
+use Rattle.std.specs.Prelude.{◌≡◌, ℕ, suc, List, [], ◌∷◌, Some, ◌⊎◌}
 use Rattle.std.specs.List.{Contains}
 use Rattle.con_terms.specs.Trees.{Cn, var, basic, arrow, record_of, name, Prs, no_pairs, pair}
 use Rattle.con_terms.specs.Equal.{Equal}

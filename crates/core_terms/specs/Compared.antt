@@ -1,7 +1,7 @@
 -- How two constructors, two rows, and a row and its fields compare by normal forms. One comparison has 100,000 units for both sides.
-use Rattle.std.specs.Prelude.{◌≡◌, ◌≢◌, ℕ, List, [], ◌∷◌, Option, Some, None}
+use Rattle.std.specs.Prelude.{◌≡◌, ◌≢◌, ℕ, List, [], ◌∷◌, Some, None}
 use Rattle.std.specs.List.{All}
-use Rattle.con_terms.specs.Trees.{Cn, types, Prs, no_pairs, pair, row}
+use Rattle.con_terms.specs.Trees.{Cn, types, no_pairs, pair, row}
 use Rattle.con_terms.specs.Apart.{Guards, Separated, pieces}
 use Rattle.row_normal.specs.NormalForm.{nf}
 use Rattle.row_normal.specs.Ordered.{ordered_pieces}

@@ -1,6 +1,6 @@
 -- Which shapes a type's values have, and whether patterns take them all.
 -- The Ur/Web Manual, "Pattern Typing", which asks that patterns be exhaustive.
-use Rattle.std.specs.Prelude.{◌≡◌, ℕ, zero, suc, max, ℤ, Bool, true, false, ◌&&◌, ◌==◌, bytes_eq, List, [], ◌∷◌, Option, Some, None, slice_get, IsTrue, IsUtf8, FitsSigned, if◌then◌else◌}
+use Rattle.std.specs.Prelude.{◌≡◌, ℕ, zero, suc, max, ℤ, Bool, true, false, ◌&&◌, ◌==◌, bytes_eq, List, [], ◌∷◌, Option, Some, None, slice_get, IsUtf8, FitsSigned, if◌then◌else◌}
 use Rattle.std.specs.Int.{w64}
 use Rattle.std.specs.List.{Contains}
 use Rattle.std.specs.Ordering.{int_eq}
@@ -8,7 +8,7 @@ use Rattle.con_terms.specs.Trees.{Cn, name}
 use Rattle.core_terms.specs.Trees.{Pt, pattern, Pf, any, binds, is_number, is_text, is_bare, is_holding, has_fields, annotated, Pfs, no_pat_fields, pat_field, Cd, Dt}
 use Rattle.core_terms.specs.Datatypes.{held_at}
 use Rattle.core_terms.specs.Scopes.{normal_of}
-use Rattle.core_terms.specs.Seen.{Seen, a_number, a_text, a_datatype, a_record, nothing_more, seen}
+use Rattle.core_terms.specs.Seen.{a_number, a_text, a_datatype, a_record, nothing_more, seen}
 
 mutual
   -- shapes: a leaf stands for any value

@@ -1,9 +1,9 @@
 -- Declarations: the values that they make, and when they are typed.
 -- The Ur/Web Manual, "Declaration Typing".
-use Rattle.std.specs.Prelude.{◌≡◌, ◌≢◌, ℕ, zero, suc, length, Bool, List, [], ◌∷◌, ◌++◌, map, Option, Some, None}
+use Rattle.std.specs.Prelude.{◌≡◌, ◌≢◌, ℕ, zero, suc, length, Bool, List, [], ◌∷◌, ◌++◌, map, Some}
 use Rattle.std.specs.List.{All, Contains}
 use Rattle.con_terms.specs.Trees.{Kd, types, Cn}
-use Rattle.con_terms.specs.Kinded.{Scope, Kinded}
+use Rattle.con_terms.specs.Kinded.{Kinded}
 use Rattle.con_terms.specs.declared.place.Place.{Place}
 use Rattle.core_terms.specs.Trees.{Ex, Nms, no_named, named, De, val, vals, con_is, datatype, Cd, Dt, Pg}
 use Rattle.core_terms.specs.Datatypes.{basis_datatypes}

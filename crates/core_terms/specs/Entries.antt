@@ -1,20 +1,20 @@
 -- The entries of a program: which values a request can call, with the shapes of their arguments.
-use Rattle.std.specs.Prelude.{◌≡◌, ◌≢◌, ℕ, zero, suc, ◌-◌, ◌==◌, Bool, true, false, List, [], ◌∷◌, ◌++◌, map, Option, Some, None, slice_get, if◌then◌else◌, ◌⊎◌}
-use Rattle.std.specs.List.{Contains, position, flat_map}
+use Rattle.std.specs.Prelude.{◌≡◌, ◌≢◌, ℕ, suc, ◌-◌, Bool, true, false, List, [], ◌∷◌, ◌++◌, map, Option, Some, None, slice_get, if◌then◌else◌}
+use Rattle.std.specs.List.{Contains, flat_map}
 use Rattle.std.specs.Ordering.{is_lt, nat_cmp}
 use Rattle.std.specs.Cmp.Lexicographic.{slice_cmp}
-use Rattle.con_terms.specs.Trees.{Cn, var, arrow, record_of}
+use Rattle.con_terms.specs.Trees.{Cn, var, arrow}
 use Rattle.con_terms.specs.Equal.{Equal}
 use Rattle.table_rows.specs.Shapes.{Sh, an_int, a_text, a_unit, a_truth, a_record, a_data, parameter, Shs, no_shapes, shape, Pts, no_parts, part, Cases}
 use Rattle.link_router.specs.Calls.{Ent, Rts}
 use Rattle.core_terms.specs.Names.{bool_name}
-use Rattle.core_terms.specs.Trees.{Ex, Cd, Dt, Pg}
+use Rattle.core_terms.specs.Trees.{Cd, Dt, Pg}
 use Rattle.core_terms.specs.Types.{transaction_of, page_type}
 use Rattle.core_terms.specs.Datatypes.{basis_datatypes}
 use Rattle.core_terms.specs.Scopes.{normal_of}
 use Rattle.core_terms.specs.Seen.{a_number, a_datatype, seen}
 use Rattle.core_terms.specs.Seen as seen
-use Rattle.core_terms.specs.Carried.{Carried, ShowsPage, SendsForm}
+use Rattle.core_terms.specs.Carried.{Carried}
 use Rattle.core_terms.specs.Declarations.{Value, values, datatypes}
 use Rattle.core_terms.specs.Targets.{Target, targets}
 

@@ -1,9 +1,8 @@
 -- Terms for the examples, as the elaborator would make them of their sources.
-use Rattle.std.specs.Prelude.{ℕ, ℤ, pos, Bool, true, false, List, [], ◌∷◌, ◌++◌, Option, Some, None, codes}
-use Rattle.con_terms.specs.Trees.{Kd, types, units, names, row_of, to, Cn, var, basic, arrow, record_of, app, lambda, unit_con, name, row, cat, map_of, Prs, no_pairs, pair}
+use Rattle.std.specs.Prelude.{ℕ, pos, true, false, List, [], ◌∷◌, ◌++◌, None, codes}
+use Rattle.con_terms.specs.Trees.{types, units, names, row_of, Cn, var, basic, arrow, record_of, app, lambda, unit_con, name, row, cat, Prs, no_pairs, pair}
 use Rattle.con_terms.specs.Equal.{mapped}
 use Rattle.con_terms.specs.declared.place.Place.{Place}
-use Rattle.core_terms.specs.declared.basis.BasisName.{BasisName}
 use Rattle.core_terms.specs.declared.basis.BasisName.TheVariants.{Strcat, Divide, NumInt, Txt, ShowString}
 use Rattle.core_terms.specs.declared.markup.TagName.TheVariants as word
 use Rattle.core_terms.specs.declared.markup.AttrName.TheVariants as attr
@@ -11,7 +10,7 @@ use Rattle.core_terms.specs.Names.{basis_texts, option_name, list_name, html_con
 use Rattle.core_terms.specs.Types.{int_type, string_type, unit_type, type_row, no_types, one_field, unit_row}
 use Rattle.core_terms.specs.Datatypes.{basis_datatypes}
 use Rattle.core_terms.specs.Scopes.{Sc, top_scope}
-use Rattle.core_terms.specs.Trees.{Pt, pattern, Pf, any, binds, is_holding, has_fields, no_pat_fields, Ex, node, Fo, bound, top, basis, fold_over, number, text, fn, fn_con, fn_guard, call, case_of, ascribed, fields_of, select, concat, without, folder, element, Its, no_items, with_term, with_con, with_guard, Brs, no_branches, Fds, no_fields, field, El, tagged, Ats, no_attributes, attribute, Xs, no_nodes, a_node}
+use Rattle.core_terms.specs.Trees.{Pt, pattern, binds, is_holding, has_fields, no_pat_fields, Ex, node, Fo, bound, top, basis, fold_over, number, text, fn, fn_con, fn_guard, call, case_of, ascribed, fields_of, select, concat, without, folder, element, Its, no_items, with_term, with_con, no_branches, no_fields, field, tagged, no_attributes, attribute, no_nodes, a_node}
 use Rattle.core_terms.specs.Applied.{Rn}
 
 -- a place in the first file

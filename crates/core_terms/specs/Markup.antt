@@ -1,6 +1,6 @@
 -- The tags: where each stands, what it holds, which attributes it has and which field it fills.
 -- HTML's content rules, cut down to this project's subset.
-use Rattle.std.specs.Prelude.{ℕ, Bool, true, false, List, [], ◌∷◌, Option, Some, None}
+use Rattle.std.specs.Prelude.{Bool, true, false, [], ◌∷◌, Option, Some, None}
 use Rattle.con_terms.specs.Trees.{Cn, arrow, record_of}
 use Rattle.core_terms.specs.declared.markup.TagName.{TagName}
 use Rattle.core_terms.specs.declared.markup.TagName.TheVariants.{Head, Body, Title, P, Div, Span, B, I, Em, Strong, H1, H2, H3, H4, Ul, Ol, Li, Code, Blockquote, Br, Hr, A, Img, Table, Tr, Th, Td, Form, Textbox, Password, Hidden, Checkbox, Submit}

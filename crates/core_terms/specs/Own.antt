@@ -12,9 +12,9 @@
 -- | ++            | both are records; their rows are apart        | either; both                         | that part; the node
 -- | folder        | its kind has a folder; the row's kind         | none                                 | the node
 -- | element       | where it stands; its attributes; its nodes    | none; the attribute's term; the nodes up to it | the node; the attribute's term; the node in it
-use Rattle.std.specs.Prelude.{◌≡◌, ◌≢◌, ℕ, ◌<◌, suc, ℤ, Bool, true, false, List, [], ◌∷◌, ◌++◌, Option, Some, None, slice_get}
+use Rattle.std.specs.Prelude.{◌≡◌, ℕ, ◌<◌, Bool, true, false, List, [], ◌∷◌, Option, Some, None, slice_get}
 use Rattle.std.specs.List.{Contains}
-use Rattle.con_terms.specs.Trees.{Kd, types, units, names, row_of, Cn, arrow, poly, guarded, record_of, basic, unit_con, row, cat, Prs, no_pairs, pair}
+use Rattle.con_terms.specs.Trees.{Kd, types, units, names, row_of, Cn, arrow, poly, guarded, record_of, unit_con, row, cat, Prs, no_pairs}
 use Rattle.con_terms.specs.Substitution.{subst}
 use Rattle.con_terms.specs.Kinded.{Kinded}
 use Rattle.con_terms.specs.declared.place.Place.{Place}
@@ -22,15 +22,14 @@ use Rattle.row_normal.specs.Ordered.{ordered_pieces}
 use Rattle.core_terms.specs.declared.markup.TagName.{TagName}
 use Rattle.core_terms.specs.declared.markup.AttrName.{AttrName}
 use Rattle.core_terms.specs.declared.markup.AttrName.TheVariants as attr
-use Rattle.core_terms.specs.Trees.{Pt, Ex, node, Fo, bound, top, foreign, basis, fold_over, number, text, built, fn, fn_con, fn_guard, call, let_in, case_of, ascribed, fields_of, select, concat, without, without_row, folder, element, Its, no_items, with_term, with_con, with_guard, Nms, no_named, named, Los, no_locals, local_val, local_rec, Brs, no_branches, branch, Fds, no_fields, field, El, tagged, Ats, no_attributes, attribute, Xs, no_nodes, a_node, Cd, Dt}
+use Rattle.core_terms.specs.Trees.{Pt, Ex, node, bound, top, foreign, fold_over, built, fn, fn_guard, call, let_in, case_of, ascribed, fields_of, select, concat, without, without_row, folder, element, Its, with_term, with_con, with_guard, Nms, named, Los, local_val, local_rec, Brs, branch, Fds, field, El, tagged, Ats, attribute, Xs, a_node, Cd, Dt}
 use Rattle.core_terms.specs.Types.{type_row, no_types, one_field, unit_row, xml_of}
 use Rattle.core_terms.specs.Datatypes.{datatype_of}
-use Rattle.core_terms.specs.Scopes.{Sc, under, under_con, under_guard, normal_of}
-use Rattle.core_terms.specs.Cover.{Covers, Misses, TooLargeIn, patterns_depth, Shp}
-use Rattle.core_terms.specs.Carried.{ShowsPage, SendsForm}
+use Rattle.core_terms.specs.Scopes.{Sc, under, normal_of}
+use Rattle.core_terms.specs.Cover.{Misses, TooLargeIn, patterns_depth, Shp}
 use Rattle.core_terms.specs.Markup.{in_body, context_row, MayBeInForm, holding, of_words, empty, a_form, an_input, a_button, stands, sort_of, attribute_type, Where}
 use Rattle.core_terms.specs.Typed.{branch_patterns, named_types, IsCallOf, IsLinked, HasAttribute, IsWords}
-use Rattle.core_terms.specs.Compared.{Alike, Differ, Large, Disjoint, Touch, HasField, LacksField, PicksAll}
+use Rattle.core_terms.specs.Compared.{Alike, Differ, Large, Touch, LacksField, PicksAll}
 use Rattle.core_terms.specs.PatternFaults.{PatFound, PatFault}
 use Rattle.core_terms.specs.Found.{Found, FieldsFound}
 use Rattle.core_terms.specs.Faults.{Fault, unbound, a_variable, a_value, an_effect, a_constructor, an_attribute, a_folder, an_input_name, mismatch, not_disjoint, inexhaustive, redeclared, twice_attribute, link_not_call, not_serialisable, too_large, KindFaults}

@@ -1,14 +1,14 @@
 -- Patterns matched against a type: what they bind, or what is at fault in them.
-use Rattle.std.specs.Prelude.{◌≡◌, ℕ, zero, suc, ℤ, Bool, true, false, List, [], ◌∷◌, ◌++◌, length, Option, Some, None, slice_get}
-use Rattle.con_terms.specs.Trees.{types, names, Cn, basic, arrow, unit_con, record_of, Prs, no_pairs, pair}
+use Rattle.std.specs.Prelude.{◌≡◌, ℕ, zero, suc, ℤ, Bool, true, false, List, [], ◌∷◌, ◌++◌, Some, None, slice_get}
+use Rattle.con_terms.specs.Trees.{types, names, Cn, basic, arrow, unit_con, record_of, no_pairs}
 use Rattle.con_terms.specs.Kinded.{Kinded}
 use Rattle.con_terms.specs.declared.place.Place.{Place}
 use Rattle.row_normal.specs.Ordered.{ordered_pieces}
-use Rattle.core_terms.specs.Trees.{Pt, pattern, Pf, any, binds, is_number, is_text, is_bare, is_holding, has_fields, annotated, Pfs, no_pat_fields, pat_field, Cd, Dt}
+use Rattle.core_terms.specs.Trees.{Pt, pattern, any, binds, is_number, is_text, is_bare, is_holding, has_fields, annotated, Pfs, no_pat_fields, pat_field, Cd, Dt}
 use Rattle.core_terms.specs.Types.{int_type, string_type, one_field, type_row, at_types}
 use Rattle.core_terms.specs.Datatypes.{datatype_of, held_at}
 use Rattle.core_terms.specs.Scopes.{Sc, normal_of}
-use Rattle.core_terms.specs.Seen.{Seen, a_datatype, seen}
+use Rattle.core_terms.specs.Seen.{a_datatype, seen}
 use Rattle.core_terms.specs.Faults.{Fault, unbound, a_constructor, mismatch, too_large, KindFaults}
 use Rattle.core_terms.specs.Compared.{Alike, Differ, Large, Picks}
 

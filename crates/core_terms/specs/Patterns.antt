@@ -1,11 +1,11 @@
 -- Which patterns have which types, and the types of what they bind, the innermost first.
 -- The Ur/Web Manual, "Pattern Typing".
-use Rattle.std.specs.Prelude.{◌≡◌, ℕ, ℤ, Bool, true, false, List, [], ◌∷◌, ◌++◌, length, Option, Some, None, slice_get}
+use Rattle.std.specs.Prelude.{◌≡◌, ℕ, ℤ, Bool, true, false, List, [], ◌∷◌, ◌++◌, length, Some, None, slice_get}
 use Rattle.con_terms.specs.Trees.{types, names, row_of, Cn, basic, record_of, cat, Prs, no_pairs, pair}
 use Rattle.con_terms.specs.Equal.{Equal}
 use Rattle.con_terms.specs.Kinded.{Kinded}
 use Rattle.con_terms.specs.declared.place.Place.{Place}
-use Rattle.core_terms.specs.Trees.{Pt, pattern, Pf, any, binds, is_number, is_text, is_bare, is_holding, has_fields, annotated, Pfs, no_pat_fields, pat_field, Cd, Dt}
+use Rattle.core_terms.specs.Trees.{Pt, pattern, any, binds, is_number, is_text, is_bare, is_holding, has_fields, annotated, Pfs, no_pat_fields, pat_field, Cd, Dt}
 use Rattle.core_terms.specs.Types.{int_type, string_type, type_row, at_types}
 use Rattle.core_terms.specs.Datatypes.{datatype_of, held_at}
 use Rattle.core_terms.specs.Scopes.{Sc}

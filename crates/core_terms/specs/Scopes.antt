@@ -1,5 +1,5 @@
 -- What is in scope where a term stands.
-use Rattle.std.specs.Prelude.{ℕ, ◌==◌, List, [], ◌∷◌, ◌++◌, map, Option, Some, None, if◌then◌else◌}
+use Rattle.std.specs.Prelude.{ℕ, List, [], ◌∷◌, ◌++◌, map, Option, Some, None}
 use Rattle.con_terms.specs.Trees.{Kd, types, row_of, to, Cn}
 use Rattle.con_terms.specs.Substitution.{shift}
 use Rattle.con_terms.specs.Kinded.{Scope, bind, assume}

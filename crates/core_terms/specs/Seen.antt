@@ -1,6 +1,6 @@
 -- What a type in normal form tells of its values.
-use Rattle.std.specs.Prelude.{ℕ, ◌==◌, List, [], ◌∷◌, ◌++◌, Option, Some, None, if◌then◌else◌}
-use Rattle.con_terms.specs.Trees.{Cn, var, basic, arrow, poly, guarded, record_of, app, lambda, unit_con, name, row, cat, map_of, tuple, proj, Prs, no_pairs, pair}
+use Rattle.std.specs.Prelude.{ℕ, ◌==◌, List, [], ◌∷◌, ◌++◌, Some, None, if◌then◌else◌}
+use Rattle.con_terms.specs.Trees.{Cn, basic, record_of, app, name, row, cat, Prs, no_pairs, pair}
 use Rattle.core_terms.specs.Names.{int_name, string_name}
 use Rattle.core_terms.specs.Trees.{Dt}
 use Rattle.core_terms.specs.Datatypes.{datatype_of}

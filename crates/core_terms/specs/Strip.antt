@@ -1,6 +1,6 @@
 -- What is left of a term when what was inserted is dropped: its source, with names resolved.
 -- Dropped are inserted constructors, guards, folders and instances at calls; and types, kinds, rows and contexts that weren't written become ().
-use Rattle.std.specs.Prelude.{ℕ, Bool, true, false, List, map, Option}
+use Rattle.std.specs.Prelude.{Bool, true, false}
 use Rattle.con_terms.specs.Trees.{Kd, types, Cn, unit_con}
 use Rattle.con_terms.specs.declared.place.Place.{Place}
 use Rattle.core_terms.specs.Trees.{Pt, pattern, Pf, any, binds, is_number, is_text, is_bare, is_holding, has_fields, annotated, Pfs, no_pat_fields, pat_field, Ex, node, Fo, bound, top, foreign, basis, fold_over, number, text, built, fn, fn_con, fn_guard, call, let_in, case_of, ascribed, fields_of, select, concat, without, without_row, folder, element, Its, no_items, with_term, with_con, with_guard, Nms, no_named, named, Los, no_locals, local_val, local_rec, Brs, no_branches, branch, Fds, no_fields, field, El, tagged, Ats, no_attributes, attribute, Xs, no_nodes, a_node, De, val, vals, con_is, datatype}

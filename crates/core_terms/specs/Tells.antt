@@ -1,5 +1,5 @@
 -- Which fault a program tells: of all premises that fail, in the declarations and in the terms, the first in text order, and the inner first where two begin at one byte.
-use Rattle.std.specs.Prelude.{◌≡◌, ◌≢◌, ℕ, ◌<◌, Bool, List, [], ◌∷◌, ◌++◌, length, Option, Some, None, slice_get}
+use Rattle.std.specs.Prelude.{◌≡◌, ℕ, ◌<◌, Bool, List, [], ◌∷◌, ◌++◌, Option, Some, slice_get}
 use Rattle.std.specs.List.{Contains}
 use Rattle.con_terms.specs.Trees.{Kd, types, row_of, Cn}
 use Rattle.con_terms.specs.Kinded.{Kinded}
@@ -7,7 +7,7 @@ use Rattle.con_terms.specs.declared.place.Place.{Place}
 use Rattle.link_router.specs.Calls.{Ent}
 use Rattle.core_terms.specs.declared.markup.AttrName.{AttrName}
 use Rattle.core_terms.specs.declared.markup.TagName.{TagName}
-use Rattle.core_terms.specs.Trees.{Pt, Ex, node, Fo, fn, fn_con, fn_guard, call, let_in, case_of, ascribed, fields_of, select, concat, without, without_row, element, top, Its, no_items, with_term, with_con, with_guard, Nms, no_named, named, Los, no_locals, local_val, local_rec, Brs, no_branches, branch, Fds, no_fields, field, El, tagged, Ats, no_attributes, attribute, Xs, no_nodes, a_node, De, val, vals, con_is, datatype, Cd, Dt, Pg}
+use Rattle.core_terms.specs.Trees.{Pt, Ex, node, fn, fn_con, fn_guard, call, let_in, case_of, ascribed, fields_of, select, concat, without, without_row, element, Its, with_term, with_con, with_guard, Nms, named, Los, no_locals, local_val, local_rec, Brs, branch, Fds, field, tagged, Ats, attribute, Xs, a_node, De, val, vals, con_is, datatype, Cd, Dt, Pg}
 use Rattle.core_terms.specs.Scopes.{Sc, under, under_con, under_guard}
 use Rattle.core_terms.specs.Typed.{named_types}
 use Rattle.core_terms.specs.PatternFaults.{PatFound}

@@ -1,6 +1,6 @@
 -- Terms, patterns and declarations as finite trees, with their places.
 -- The Ur/Web Manual, "Core Language".
-use Rattle.std.specs.Prelude.{ℕ, ℤ, Bool, List, [], ◌∷◌, Option}
+use Rattle.std.specs.Prelude.{ℕ, ℤ, Bool, List, Option}
 use Rattle.con_terms.specs.Trees.{Kd, Cn, Prs}
 use Rattle.con_terms.specs.declared.place.Place.{Place}
 use Rattle.core_terms.specs.declared.basis.BasisName.{BasisName}

@@ -1,8 +1,8 @@
 -- Types that rules speak of.
 -- The Ur/Web Manual, "The Ur Standard Library" and "The Ur/Web Standard Library".
-use Rattle.std.specs.Prelude.{ℕ, zero, suc, Bool, true, false, List, [], ◌∷◌, if◌then◌else◌}
-use Rattle.con_terms.specs.Trees.{Kd, types, units, names, row_of, to, Cn, var, basic, arrow, poly, guarded, record_of, app, unit_con, name, row, cat, Prs, no_pairs, pair}
-use Rattle.core_terms.specs.Names.{int_name, string_name, url_name, bool_name, option_name, list_name, transaction_name, xml_name, show_name, eq_name, ord_name, num_name, html_context, body_context}
+use Rattle.std.specs.Prelude.{ℕ, zero, suc, true, List, [], ◌∷◌}
+use Rattle.con_terms.specs.Trees.{Kd, types, units, to, Cn, basic, arrow, poly, record_of, app, unit_con, name, row, Prs, no_pairs, pair}
+use Rattle.core_terms.specs.Names.{int_name, string_name, url_name, bool_name, transaction_name, xml_name, show_name, eq_name, ord_name, num_name, html_context, body_context}
 
 abbrev pub int_type : Cn
 int_type = basic int_name

@@ -9,7 +9,7 @@ use Rattle.core_terms.specs.declared.markup.AttrName.{AttrName}
 use Rattle.core_terms.specs.declared.pat.Pat.{Pat}
 use Rattle.core_terms.specs.declared.pat.PatForm.{PatForm}
 use Rattle.core_terms.specs.declared.pat.PatForm.TheOpen.{PatForm-F, Pat-F, PatField-F, PatFields-F}
-use Rattle.core_terms.specs.declared.pat.PatForm.TheFolds.{fold-PatForm, fold-Pat, fold-PatField, fold-PatFields}
+use Rattle.core_terms.specs.declared.pat.PatForm.TheFolds.{fold-PatForm, fold-Pat, fold-PatFields}
 use Rattle.core_terms.specs.declared.pat.PatFields.{PatFields}
 use Rattle.core_terms.specs.declared.pat.Pats.{Pats}
 use Rattle.core_terms.specs.declared.exp.Exp.{Exp}
@@ -23,7 +23,7 @@ use Rattle.core_terms.specs.declared.exp.Named.{Named}
 use Rattle.core_terms.specs.declared.exp.NamedList.{NamedList}
 use Rattle.core_terms.specs.declared.exp.Attributes.{Attributes}
 use Rattle.core_terms.specs.declared.exp.Form.TheOpen.{Form-F, Item-F, Local-F, Attribute-F, Attributes-F, Branch-F, Branches-F, Element-F, Exp-F, Exps-F, Field-F, Fields-F, Items-F, Locals-F, Named-F, NamedList-F}
-use Rattle.core_terms.specs.declared.exp.Form.TheFolds.{fold-Form, fold-Item, fold-Local, fold-Attribute, fold-Attributes, fold-Branch, fold-Branches, fold-Element, fold-Exp, fold-Exps, fold-Field, fold-Fields, fold-Items, fold-Locals, fold-Named, fold-NamedList}
+use Rattle.core_terms.specs.declared.exp.Form.TheFolds.{fold-Form, fold-Attributes, fold-Branches, fold-Exp, fold-Exps, fold-Fields, fold-Items, fold-Locals, fold-Named, fold-NamedList}
 use Rattle.core_terms.specs.declared.decl.Decl.{Decl}
 use Rattle.core_terms.specs.declared.decl.Decl.TheVariants as decl
 use Rattle.core_terms.specs.declared.decl.Decls.{Decls}
