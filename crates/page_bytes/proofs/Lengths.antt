@@ -1,5 +1,5 @@
 -- Lengths of bytes one after the other.
-use Rattle.std.proofs.Common.{◌≡◌, ℕ, ◌+◌, List, ◌++◌, length, length-append, min, sym, ap, ◌∙◌, subst, arith}
+use Rattle.std.proofs.Common.{◌≡◌, ℕ, ◌+◌, List, ◌++◌, length, length-append, min, subst, arith}
 use Rattle.xml_trees.specs.Markup.{Markup}
 use Rattle.xml_trees.specs.Grammar.{IsPage}
 use Rattle.page_bytes.specs.Lengths.{length_told}

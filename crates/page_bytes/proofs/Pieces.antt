@@ -1,5 +1,5 @@
 -- The bytes of pieces, from one of them on.
-use Rattle.std.proofs.Common.{◌≡◌, ℕ, suc, ◌+◌, ◌<◌, ◌≤◌, List, [], ◌∷◌, ◌++◌, refl, sym, ap, ◌∙◌, append_assoc, append-nil, drop, length, get_or, add-one, drop-cons}
+use Rattle.std.proofs.Common.{◌≡◌, ℕ, suc, ◌+◌, ◌<◌, ◌≤◌, List, ◌∷◌, ◌++◌, sym, ap, ◌∙◌, append_assoc, append-nil, drop, length, get_or, add-one, drop-cons}
 use Rattle.std.proofs.Math.ListN.{drop_of_length-le}
 use Rattle.xml_trees.specs.declared.page.Piece.{Piece}
 use Rattle.xml_trees.specs.PieceText.{piece_bytes, pieces_bytes, hidden_after}

@@ -1,11 +1,10 @@
 -- Putting bytes out one after the other.
-use Rattle.std.proofs.Common.{◌≡◌, false, true, ℕ, suc, ◌+◌, ◌-◌, ◌^◌, ◌≤◌, ◌<◌, List, [], ◌∷◌, length, length-drop, get_or, subst, add-one, drop-cons, ◌++◌, Result, Ok, Err, OnOk, OnErr, IsErr, Some, None, refl, sym, ap, ◌∙◌, append_assoc, append-nil, take, drop, take-append-drop, arith}
+use Rattle.std.proofs.Common.{◌≡◌, false, true, ℕ, suc, ◌+◌, ◌-◌, ◌≤◌, ◌<◌, List, [], ◌∷◌, length, length-drop, get_or, subst, add-one, drop-cons, ◌++◌, Result, Ok, Err, IsErr, sym, ap, ◌∙◌, append_assoc, append-nil, take, drop, take-append-drop, arith}
 use Rattle.std.proofs.Math.Seq.{take-suc, take-add}
 use Rattle.std.proofs.lemmas.Grind.{flat_map-append}
 use Rattle.std.proofs.lemmas.List.{get_or-drop, get_or_default, take_rest, take_all}
 use Rattle.std.specs.List.{flat_map}
 use Rattle.std.specs.declared.option.Option.{Option}
-use Rattle.std.specs.Io.KnownBytes.{Appends}
 use Rattle.std.proofs.KnownBytes.{Appends-trans, Appends-nil}
 use Rattle.ur_outside.specs.Causes.{Rose}
 use Rattle.ur_outside.specs.Whole.{AppendsFront}

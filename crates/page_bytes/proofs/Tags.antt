@@ -7,7 +7,6 @@ use Rattle.xml_trees.specs.declared.tag.Tag.{Tag}
 use Rattle.xml_trees.specs.declared.attrs.Attr.{Attr}
 use Rattle.xml_trees.specs.Names.{name_bytes}
 use Rattle.xml_trees.specs.Tags.{name_of}
-use Rattle.xml_trees.specs.Markup.{Attribute}
 use Rattle.xml_trees.specs.Written.{attribute_of, own_attributes}
 use Rattle.xml_trees.specs.PieceText.{attribute_bytes, begin_bytes}
 

@@ -7,10 +7,9 @@ mod fault;
 mod gather;
 mod hidden;
 mod length;
-mod writer;
-
 #[cfg(test)]
 mod tests;
+mod writer;
 
 pub use fault::PageFault;
 pub use length::page_length;

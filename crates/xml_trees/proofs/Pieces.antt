@@ -1,20 +1,18 @@
 -- A page's pieces, written one after another, are its text.
-use Rattle.std.proofs.Common.{◌≡◌, ◌≢◌, inl, inr, ℕ, ◌+◌, ◌-◌, Bool, true, false, List, [], ◌∷◌, ◌++◌, IsTrue, refl, sym, ap, ◌∙◌, subst, append_assoc, append-nil, arith}
+use Rattle.std.proofs.Common.{◌≡◌, inl, inr, ℕ, ◌+◌, ◌-◌, Bool, true, false, List, [], ◌∷◌, ◌++◌, refl, sym, ap, ◌∙◌, append_assoc, append-nil, arith}
 use Rattle.std.specs.Prelude.{◌==◌, codes, if◌then◌else◌}
 use Rattle.std.specs.List.{flat_map}
-use Rattle.std.proofs.lemmas.Bool.{cases_Bool, eqb-true, eqb-false}
-use Rattle.xml_trees.specs.declared.name.Name.{Name}
+use Rattle.std.proofs.lemmas.Bool.{cases_Bool, eqb-true}
 use Rattle.xml_trees.specs.declared.tag.Tag.{Tag}
 use Rattle.xml_trees.specs.declared.attrs.Attr.{Attr}
 use Rattle.xml_trees.specs.declared.page.Piece.{Piece}
 use Rattle.xml_trees.specs.declared.page.Piece.TheVariants.{Begin, Words as Said, End}
-use Rattle.xml_trees.specs.Names.{name_bytes, is_void_name}
+use Rattle.xml_trees.specs.Names.{is_void_name}
 use Rattle.xml_trees.specs.Tags.{name_of}
-use Rattle.xml_trees.specs.Trees.{Trees, Nothing, Words, Element, trees_and, Built, Whole, Within, built_and, ended, IsWhole, trees_of, grown, grown_by, built, EndsWith, AreNested}
+use Rattle.xml_trees.specs.Trees.{Trees, Nothing, Words, Element, trees_and, Built, Whole, Within, built_and, IsWhole, trees_of, grown, grown_by, built, AreNested}
 use Rattle.xml_trees.specs.Written.{written}
-use Rattle.xml_trees.specs.Grammar.{IsMarkup, IsPage}
-use Rattle.xml_trees.specs.PieceText.{escape, begin_bytes, end_bytes, piece_bytes, hidden_after, pieces_bytes, page_bytes, PiecesArePages}
-use Rattle.xml_trees.proofs.Spelling.{markup_then, markup_is, markup_of}
+use Rattle.xml_trees.specs.PieceText.{escape, begin_bytes, end_bytes, piece_bytes, hidden_after, pieces_bytes, PiecesArePages}
+use Rattle.xml_trees.proofs.Spelling.{markup_is, markup_of}
 use Rattle.xml_trees.proofs.Normal.{is_normal, element_bytes, trees_bytes, same_text}
 
 trees_bytes-and : (t u : Trees) → trees_bytes (trees_and t u) ≡ trees_bytes t ++ trees_bytes u

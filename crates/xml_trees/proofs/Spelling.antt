@@ -1,9 +1,9 @@
 -- The text of written trees, computed, and that the grammar gives exactly it.
-use Rattle.std.proofs.Common.{◌≡◌, ◌≢◌, inl, inr, ℕ, Bool, true, false, List, [], ◌∷◌, ◌++◌, IsTrue, refl, sym, ap, ◌∙◌, subst, append_assoc, append-nil}
+use Rattle.std.proofs.Common.{◌≡◌, ◌≢◌, inl, inr, ℕ, Bool, true, false, List, [], ◌∷◌, ◌++◌, refl, sym, ap, ◌∙◌, subst, append_assoc, append-nil}
 use Rattle.std.specs.Prelude.{◌==◌, codes, if◌then◌else◌}
 use Rattle.std.specs.List.{flat_map}
 use Rattle.std.proofs.lemmas.Bool.{cases_Bool, eqb-true, eqb-false}
-use Rattle.xml_trees.specs.Markup.{Attribute, Markup, Empty, Characters, Tagged, IsName, is_void, BeginsNoText, AreNamed, IsNormal}
+use Rattle.xml_trees.specs.Markup.{Attribute, Markup, Empty, Characters, Tagged, is_void, AreNamed, IsNormal}
 use Rattle.xml_trees.specs.PieceText.{escape, quote}
 use Rattle.xml_trees.specs.Grammar.{IsCharacter, Ampersand, Less, Greater, Itself, IsQuoted, Quote, Other, IsText, NoText, MoreText, IsValue, NoValue, MoreValue, AreAttributes, NoAttributes, MoreAttributes, IsMarkup, NoMarkup, Text, Void, Closed}
 

@@ -1,12 +1,12 @@
 -- A page's bytes stand for its trees alone.
-use Rattle.std.proofs.Common.{◌≡◌, ◌≢◌, inl, inr, ℕ, ◌+◌, Bool, true, false, List, [], ◌∷◌, ◌++◌, IsTrue, Option, Some, None, refl, sym, ap, ◌∙◌, subst, append_assoc, drop}
+use Rattle.std.proofs.Common.{◌≡◌, ◌≢◌, inl, inr, ℕ, true, false, List, [], ◌∷◌, ◌++◌, IsTrue, Option, Some, None, refl, sym, ap, ◌∙◌, subst, append_assoc, drop}
 use Rattle.std.specs.Prelude.{◌==◌, codes, if◌then◌else◌}
 use Rattle.std.specs.List.{flat_map, list_all}
 use Rattle.std.proofs.lemmas.Bool.{cases_Bool, eqb-true, eqb-false, and_parts}
 use Rattle.std.proofs.lemmas.List.{append_cancel_left}
 use Rattle.xml_trees.specs.Markup.{Attribute, Markup, Empty, Characters, Tagged, is_letter, is_name_byte, IsName, is_void, BeginsNoText, AreNamed, IsNormal}
 use Rattle.xml_trees.specs.PieceText.{escape, quote}
-use Rattle.xml_trees.specs.Grammar.{IsPage, IsMarkup, PagesAreUnique, TextsAreUnique}
+use Rattle.xml_trees.specs.Grammar.{PagesAreUnique, TextsAreUnique}
 use Rattle.xml_trees.proofs.Spelling.{attributes_then, markup_then, markup_is}
 
 -- one character's byte from the front

@@ -1,5 +1,5 @@
 -- One page with its text.
-use Rattle.std.specs.Prelude.{◌≡◌, ℕ, List, [], ◌∷◌, codes}
+use Rattle.std.specs.Prelude.{ℕ, List, [], ◌∷◌, codes}
 use Rattle.xml_trees.specs.declared.tag.Tag.TheVariants.{Body, P, Br}
 use Rattle.xml_trees.specs.declared.attrs.Attr.TheVariants.{Title}
 use Rattle.xml_trees.specs.Trees.{Trees, Nothing, Words, Element}

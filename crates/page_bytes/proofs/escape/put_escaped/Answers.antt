@@ -1,5 +1,4 @@
-use Rattle.std.proofs.Common.{◌≡◌, ◌+◌, ◌-◌, ℕ, List, [], ◌∷◌, take, drop, length, refl, sym, ap, ◌∙◌, subst, arith}
-use Rattle.std.specs.List.{flat_map}
+use Rattle.std.proofs.Common.{◌≡◌, ◌+◌, ◌-◌, ℕ, List, refl, sym, ◌∙◌, arith}
 use Rattle.page_bytes.specs.Escapes.{escape_in}
 use Rattle.page_bytes.proofs.Putting.{puts_on, puts_off, run_between, run_and_byte, run_to_end, plain_more}
 use Rattle.page_bytes.proofs.escape.put_escaped.Goals as goal

@@ -1,4 +1,4 @@
-use Rattle.std.proofs.Common.{List, ℕ, ap}
+use Rattle.std.proofs.Common.{ap}
 use Rattle.page_bytes.proofs.Putting.{puts_then, puts_cut, puts_sent}
 use Rattle.page_bytes.proofs.gather.put_behind_full.Goals as goal
 

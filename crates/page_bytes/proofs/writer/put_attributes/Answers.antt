@@ -1,4 +1,4 @@
-use Rattle.std.proofs.Common.{◌≡◌, ◌++◌, List, ℕ, ap, ◌∙◌, take, drop, ◌+◌}
+use Rattle.std.proofs.Common.{◌++◌, List, ℕ, ap, ◌∙◌, take, drop, ◌+◌}
 use Rattle.std.specs.List.{flat_map}
 use Rattle.xml_trees.specs.declared.attrs.Attr.{Attr}
 use Rattle.xml_trees.specs.Written.{attribute_of}

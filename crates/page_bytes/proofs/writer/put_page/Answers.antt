@@ -1,4 +1,4 @@
-use Rattle.std.proofs.Common.{◌++◌, [], refl, append_assoc, append-nil, ◌∙◌, ap, List, ℕ}
+use Rattle.std.proofs.Common.{◌++◌, [], refl, append_assoc, append-nil, List, ℕ}
 use Rattle.std.specs.Prelude.{codes}
 use Rattle.xml_trees.specs.PieceText.{pieces_bytes}
 use Rattle.page_bytes.proofs.Putting.{puts_then, puts_on, puts_off, puts_short}

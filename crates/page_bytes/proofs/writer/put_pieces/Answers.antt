@@ -1,5 +1,5 @@
 use Rattle.std.proofs.Common.{arith, [], refl}
-use Rattle.page_bytes.proofs.Putting.{puts_then, puts_on, puts_off, puts_nothing, puts_all}
+use Rattle.page_bytes.proofs.Putting.{puts_then, puts_off, puts_nothing, puts_all}
 use Rattle.page_bytes.proofs.Pieces.{piece_between, piece_behind, no_piece}
 use Rattle.page_bytes.proofs.writer.put_pieces.Goals as goal
 

@@ -1,6 +1,6 @@
 use Rattle.xml_trees.proofs.Growing.{begun, built-begun}
 use Rattle.xml_trees.proofs.page.Page.begin.Goals as goal
-use Rattle.std.proofs.Common.{◌≡◌, ◌++◌, ◌∷◌, [], ap, ◌∙◌, List}
+use Rattle.std.proofs.Common.{◌++◌, ◌∷◌, [], ap, ◌∙◌}
 use Rattle.xml_trees.specs.declared.name.Name.{Name}
 
 pub invariant_of-self-in-Ok : goal.invariant_of-self-in-Ok

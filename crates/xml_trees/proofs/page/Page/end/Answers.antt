@@ -1,4 +1,4 @@
-use Rattle.std.proofs.Common.{◌≡◌, ◌+◌, ◌-◌, ℕ, length, arith, take, ap, ◌∙◌, sym, subst, List}
+use Rattle.std.proofs.Common.{◌≡◌, ◌-◌, ℕ, length, arith, take, ap, ◌∙◌, sym, subst, List}
 use Rattle.std.proofs.lemmas.Grind.{common_steps}
 use Rattle.xml_trees.specs.declared.page.Piece.{Piece}
 use Rattle.xml_trees.specs.Trees.{built, IsUnfinished}

@@ -1,4 +1,4 @@
-use Rattle.std.proofs.Common.{◌≡◌, ◌++◌, sym, ap, ◌∙◌, subst, List}
+use Rattle.std.proofs.Common.{sym, ap, ◌∙◌, subst, List}
 use Rattle.xml_trees.specs.declared.page.Piece.{Piece}
 use Rattle.xml_trees.specs.Trees.{built, built_and, trees_of, IsWhole}
 use Rattle.xml_trees.proofs.Growing.{joined}

@@ -1,6 +1,6 @@
 use Rattle.xml_trees.proofs.Growing.{said, built-said}
 use Rattle.xml_trees.proofs.page.Page.words.Goals as goal
-use Rattle.std.proofs.Common.{◌≡◌, ◌++◌, ◌∷◌, [], ap, ◌∙◌, List, ℕ}
+use Rattle.std.proofs.Common.{◌++◌, ◌∷◌, [], ap, ◌∙◌, List, ℕ}
 use Rattle.xml_trees.specs.declared.page.Piece.TheVariants.{Words as Said}
 
 pub invariant_of-self-2 : goal.invariant_of-self-2
