@@ -1,5 +1,5 @@
 -- The entries of a site, calls of them, and requests.
-use Rattle.std.specs.Prelude.{ℕ, ℤ, Bool, true, false, List, Option, Some, None, IsUtf8, FitsSigned}
+use Rattle.std.specs.Prelude.{ℕ, Bool, true, false, List, Option, Some, None, IsUtf8, FitsSigned}
 use Rattle.std.specs.Int.{w64}
 use Rattle.table_rows.specs.Wires.{Wr, int, words, unit, rec_of, bare, tagged, Wrs, no_wires, wire}
 use Rattle.table_rows.specs.Shapes.{Sh, Shs, Cases}

@@ -1,7 +1,7 @@
 -- The texts of links, and which call a path is.
-use Rattle.std.specs.Prelude.{◌≡◌, ℕ, Bool, List, [], ◌∷◌, ◌++◌, Option, Some, None, slice_get, codes, length, drop, map, take, if◌then◌else◌, ◌==◌, bytes_eq, nat_lt, ◌+◌}
+use Rattle.std.specs.Prelude.{◌≡◌, ℕ, Bool, List, [], ◌∷◌, ◌++◌, Option, Some, None, slice_get, codes, drop, map, take, if◌then◌else◌, ◌==◌, bytes_eq, ◌+◌}
 use Rattle.percent_encoding.specs.Percent.{percent_decode}
-use Rattle.table_rows.specs.Wires.{Wr, Wrs}
+use Rattle.table_rows.specs.Wires.{Wrs}
 use Rattle.table_rows.specs.Shapes.{HaveShapes}
 use Rattle.table_rows.specs.Pieces.{all_pieces, is_from_to}
 use Rattle.link_router.specs.Calls.{Ent, Rts, Cl, is_post, AreCarried}

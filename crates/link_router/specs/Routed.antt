@@ -1,10 +1,10 @@
 -- What a target and a method lead to: a call, or the one refusal.
-use Rattle.std.specs.Prelude.{◌≡◌, ◌≢◌, ℕ, ◌-◌, Bool, not, List, [], ◌∷◌, ◌++◌, Option, Some, None, slice_get, length}
+use Rattle.std.specs.Prelude.{◌≡◌, ℕ, ◌-◌, Bool, not, List, ◌∷◌, ◌++◌, Some, length}
 use Rattle.std.specs.List.{Contains}
 use Rattle.table_rows.specs.Wires.{Wrs}
-use Rattle.link_router.specs.Calls.{Ent, Rts, Cl, is_post}
-use Rattle.link_router.specs.Links.{Route, path_of, path_pieces}
-use Rattle.link_router.specs.Reading.{Stop, bad, few, ReadsAll, StopsAll}
+use Rattle.link_router.specs.Calls.{Ent, Rts, is_post}
+use Rattle.link_router.specs.Links.{path_of, path_pieces}
+use Rattle.link_router.specs.Reading.{bad, few, ReadsAll, StopsAll}
 
 -- why a target is no call
 pub data Astray : Type 0 where

@@ -1,5 +1,5 @@
 -- What the types of the program stand for.
-use Rattle.std.specs.Prelude.{ℕ, List, Option, Some, None, map}
+use Rattle.std.specs.Prelude.{Option, Some, None, map}
 use Rattle.table_rows.specs.Wires.{Wr}
 use Rattle.table_rows.specs.View.{wire_tree, wires_tree, arguments_tree, maybe_shape, datatypes_view}
 use Rattle.table_rows.specs.declared.wire.Wire.{Wire}

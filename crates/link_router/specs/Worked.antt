@@ -1,6 +1,6 @@
 -- Links worked by hand.
 use Rattle.std.specs.Prelude.{◌≡◌, ℕ, List, [], ◌∷◌, None, pos, negsuc, codes}
-use Rattle.table_rows.specs.Wires.{Wr, int, words, unit, rec_of, bare, tagged, Wrs, no_wires, wire}
+use Rattle.table_rows.specs.Wires.{Wr, int, words, unit, rec_of, bare, tagged, no_wires, wire}
 use Rattle.table_rows.specs.Shapes.{no_shapes}
 use Rattle.link_router.specs.Calls.{Ent}
 use Rattle.link_router.specs.Links.{link, path_of, path_pieces}
