@@ -22,6 +22,15 @@ struct Way {
     behind: Kind,
 }
 
+/// What was read: the tree, the place behind it, and the farthest place at which a way that was
+/// tried beside it was refused.
+#[derive(Drop)]
+pub struct Reading {
+    pub tree: Tree,
+    pub behind: usize,
+    pub far: usize,
+}
+
 /// Reads the longest tree for the part that begins at the place and is at most so many levels
 /// deep, and tells the place behind it. Where one token doesn't decide between two rules of a form,
 /// it tries the first of them beforehand, at most `races` times within each other; 2 are enough for
@@ -34,14 +43,18 @@ pub fn read_part(
     at: usize,
     room: u32,
     races: u32,
-) -> Result<(Tree, usize), Stop>
-    ensures { IfOk result (λ read. Reads tokens.now.items part at room read.0 read.1) }
+) -> Result<Reading, Stop>
+    ensures { IfOk result (λ read. Reads tokens.now.items part at room read.tree read.behind) }
 {
     let mut machine = Machine::new(alloc, part, at, room)?;
     while let Some(want) = machine.wants.pop() {
         meet(&mut machine, alloc, tokens, want, races)?;
     }
-    Ok((machine.tree, machine.at))
+    Ok(Reading {
+        tree: machine.tree,
+        behind: machine.at,
+        far: machine.far,
+    })
 }
 
 /// Meets what is to be read next.
@@ -193,9 +206,9 @@ fn try_way(
         room,
         races - 1,
     ) {
-        Ok((_tree, end)) => {
-            machine.far = machine.far.max(end);
-            Ok(kind_at(tokens, end) == Some(way.behind))
+        Ok(read) => {
+            machine.far = machine.far.max(read.behind).max(read.far);
+            Ok(kind_at(tokens, read.behind) == Some(way.behind))
         }
         Err(Stop::Refused(place)) => {
             machine.far = machine.far.max(place);
@@ -222,11 +235,11 @@ pub const DEEPEST: u32 = 200;
 fn read_all(alloc: Global, tokens: &Tokens, part: Part, room: u32) -> Result<Tree, Stop>
     ensures { IfOk result (λ tree. WholeTree room part tokens.now.items tree) }
 {
-    let (tree, end) = read_part(alloc, tokens, part, 0, room, 2)?;
-    if end < tokens.len() {
-        return Err(Stop::Refused(end));
+    let read = read_part(alloc, tokens, part, 0, room, 2)?;
+    if read.behind < tokens.len() {
+        return Err(Stop::Refused(read.behind.max(read.far)));
     }
-    Ok(tree)
+    Ok(read.tree)
 }
 
 /// The tree for the part that spells the tokens, at most 200 levels deep.
