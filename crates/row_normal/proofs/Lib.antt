@@ -1,0 +1,5 @@
+pub mod Options
+pub mod StepEqual
+pub mod EtaEqual
+pub mod OrderEqual
+pub mod SameTrees

@@ -84,16 +84,20 @@ abbrev pub sorted : List Cn → List Cn
 sorted [] = []
 sorted (p ∷ ps) = insert p (sorted ps)
 
--- a field before the literal that follows, as one literal, where both have literal names and one kind
-abbrev pub glue : Cn → List Cn → List Cn
-glue (row k (pair (name s) v no_pairs)) (row l (pair (name t) w ps) ∷ qs) =
-    if kd_eq k l then row k (pair (name s) v (pair (name t) w ps)) ∷ qs else row k (pair (name s) v no_pairs) ∷ row l (pair (name t) w ps) ∷ qs
-glue p qs = p ∷ qs
+-- the fields of the leading literals that have one field with a literal name, and this kind
+abbrev pub leading_fields : Kd → List Cn → Prs
+leading_fields k (row l (pair (name s) v no_pairs) ∷ ps) = if kd_eq k l then pair (name s) v (leading_fields k ps) else no_pairs
+leading_fields k _ = no_pairs
 
--- fields with literal names that stand side by side, as one literal
+-- what follows them
+abbrev pub after_leading : Kd → List Cn → List Cn
+after_leading k (row l (pair (name s) v no_pairs) ∷ ps) = if kd_eq k l then after_leading k ps else row l (pair (name s) v no_pairs) ∷ ps
+after_leading k ps = ps
+
+-- the pieces, of which the leading fields with literal names are one literal
 abbrev pub glued : List Cn → List Cn
-glued [] = []
-glued (p ∷ ps) = glue p (glued ps)
+glued (row k (pair (name s) v no_pairs) ∷ ps) = row k (pair (name s) v (leading_fields k ps)) ∷ after_leading k ps
+glued ps = ps
 
 -- the pieces joined by ++, or the empty literal
 abbrev pub joined : Kd → List Cn → Cn

@@ -3,16 +3,13 @@
 //! What the normal form is stands in `specs/`, step by step; that it is equal to what it comes from is proved.
 #![tactic(auto)]
 
-pub mod normal;
-
-mod children;
 mod code;
 mod eta;
+pub mod form;
+pub mod normal;
 mod order;
 mod reduce;
 mod same;
-mod size;
 mod steps;
-
 #[cfg(test)]
 mod tests;
