@@ -9,3 +9,4 @@ pub mod ExampleTypes
 pub mod ExampleFaults
 pub mod ExampleCover
 pub mod Stripping
+pub mod Answering

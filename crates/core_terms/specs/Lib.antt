@@ -35,3 +35,4 @@ pub mod ExampleRuns
 pub mod ExampleTypings
 pub mod StripLaw
 pub mod TypingLaws
+pub mod RequestLaws
