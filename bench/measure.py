@@ -1,22 +1,33 @@
-"""Runs commands several times and tells the best time, the throughput and the peak memory of each."""
+"""Runs commands several times over a text on standard input, and tells the best time, the throughput and the peak memory.
+
+Peak memory comes from GNU time (Debian's package `time`), in a run of its own; without it that column is empty.
+"""
 import os
+import shutil
+import subprocess
 import sys
+import tempfile
 import time
 
 
-def run_once(words, text):
-    """Seconds and peak KiB of one run that reads the text."""
-    started = time.perf_counter()
-    child = os.fork()
-    if child == 0:
-        os.dup2(os.open(text, os.O_RDONLY), 0)
-        os.dup2(os.open(os.devnull, os.O_WRONLY), 1)
-        os.execvp(words[0], words)
-    _, status, used = os.wait4(child, 0)
-    seconds = time.perf_counter() - started
-    if status:
-        sys.exit(f"{' '.join(words)} ended with wait status {status}")
-    return seconds, used.ru_maxrss
+def seconds_of(words, text):
+    """How long one run takes, from before the program starts until it has ended."""
+    with open(text, "rb") as given, open(os.devnull, "wb") as out:
+        started = time.perf_counter()
+        ended = subprocess.run(words, stdin=given, stdout=out)
+        seconds = time.perf_counter() - started
+    if ended.returncode:
+        sys.exit(f"{' '.join(words)} ended with status {ended.returncode}")
+    return seconds
+
+
+def peak_of(words, text):
+    """The peak of one run in KiB, or None where GNU time isn't there."""
+    if not shutil.which("time"):
+        return None
+    with open(text, "rb") as given, open(os.devnull, "wb") as out, tempfile.NamedTemporaryFile("r") as told:
+        subprocess.run([shutil.which("time"), "-f", "%M", "-o", told.name, *words], stdin=given, stdout=out)
+        return int(told.read().split()[-1])
 
 
 def table(rows, text, times=15):
@@ -24,9 +35,9 @@ def table(rows, text, times=15):
     size = os.path.getsize(text)
     print(f"{'command':32} {'best ms':>9} {'MB/s':>9} {'peak MiB':>9} {'bytes/byte':>11}")
     for name, words in rows:
-        runs = [run_once(words, text) for _ in range(times)]
-        seconds, peak = min(it[0] for it in runs), max(it[1] for it in runs)
-        print(f"{name:32} {seconds * 1e3:9.2f} {size / seconds / 1e6:9.1f} {peak / 1024:9.1f} {peak * 1024 / max(size, 1):11.1f}")
+        seconds, peak = min(seconds_of(words, text) for _ in range(times)), peak_of(words, text)
+        memory = f"{peak / 1024:9.1f} {peak * 1024 / max(size, 1):11.1f}" if peak else f"{'':9} {'':11}"
+        print(f"{name:32} {seconds * 1e3:9.2f} {size / seconds / 1e6:9.1f} {memory}")
 
 
 ESCAPE = [sys.executable, "-c", "import html, sys; sys.stdout.write(html.escape(sys.stdin.read()))"]
