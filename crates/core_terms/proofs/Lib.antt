@@ -10,3 +10,4 @@ pub mod ExampleFaults
 pub mod ExampleCover
 pub mod Stripping
 pub mod Answering
+pub mod OnePage

@@ -36,3 +36,4 @@ pub mod ExampleTypings
 pub mod StripLaw
 pub mod TypingLaws
 pub mod RequestLaws
+pub mod ExampleProgram

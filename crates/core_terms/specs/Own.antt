@@ -28,7 +28,7 @@ use Rattle.core_terms.specs.Datatypes.{datatype_of}
 use Rattle.core_terms.specs.Scopes.{Sc, under, normal_of}
 use Rattle.core_terms.specs.Cover.{Misses, TooLargeIn, patterns_depth, Shp}
 use Rattle.core_terms.specs.Markup.{in_body, context_row, MayBeInForm, holding, of_words, empty, a_form, an_input, a_button, stands, sort_of, attribute_type, Where}
-use Rattle.core_terms.specs.Typed.{branch_patterns, named_types, IsCallOf, IsLinked, HasAttribute, IsWords}
+use Rattle.core_terms.specs.Typed.{branch_patterns, named_types, IsLinked, HasAttribute, IsWords}
 use Rattle.core_terms.specs.Compared.{Alike, Differ, Large, Touch, LacksField, PicksAll}
 use Rattle.core_terms.specs.PatternFaults.{PatFound, PatFault}
 use Rattle.core_terms.specs.Found.{Found, FieldsFound}
@@ -83,10 +83,19 @@ pub data Uncovered : Sc → Place → List Pt → Cn → Fault → Type 0 where
   misses : {G : Sc} {p : Place} {ps : List Pt} {t : Cn} {s : Shp} → (TooLargeIn G.datatypes (patterns_depth ps) t → ⊥) → Misses G.datatypes ps t s → Uncovered G p ps t (inexhaustive p s)
   large_part : {G : Sc} {p : Place} {ps : List Pt} {t : Cn} → TooLargeIn G.datatypes (patterns_depth ps) t → Uncovered G p ps t (too_large p)
 
--- what a link or an action breaks: it isn't a call, or a type can't be carried
-pub data NotLinked : Sc → Place → AttrName → Ex → Fault → Type 0 where
-  no_call : {G : Sc} {p : Place} {n : AttrName} {e : Ex} → ((i k : ℕ) → IsCallOf e i k → ⊥) → (IsLinked G n e → ⊥) → NotLinked G p n e (link_not_call p)
-  not_carried : {G : Sc} {p : Place} {n : AttrName} {e : Ex} {i k : ℕ} → IsCallOf e i k → (IsLinked G n e → ⊥) → NotLinked G p n e (not_serialisable p)
+-- a top-level value, or a call of one
+pub data CallsTop : Ex → Type 0 where
+  top_alone : {p : Place} {a : Bool} {i : ℕ} → CallsTop (node p a (top i))
+  top_called : {p q : Place} {a b : Bool} {i : ℕ} {is : Its} → CallsTop (node p a (call (node q b (top i)) is))
+
+-- what a link or an action of a type breaks: it isn't such a call, a link lacks arguments, an action lacks more than the form or has it already, or constructors, guards or types stand in the way of carrying the arguments
+pub data NotLinked : Sc → Place → AttrName → Cn → Ex → Fault → Type 0 where
+  link_calls_none : {G : Sc} {p : Place} {t : Cn} {e : Ex} → (CallsTop e → ⊥) → NotLinked G p attr.Link t e (link_not_call p)
+  action_calls_none : {G : Sc} {p : Place} {t : Cn} {e : Ex} → (CallsTop e → ⊥) → NotLinked G p attr.Action t e (link_not_call p)
+  link_lacks : {G : Sc} {p : Place} {t v a b : Cn} {e : Ex} → CallsTop e → Found G e v → normal_of v ≡ Some (arrow a b) → NotLinked G p attr.Link t e (link_not_call p)
+  action_has_all : {G : Sc} {p : Place} {t v n : Cn} {e : Ex} → CallsTop e → Found G e v → normal_of v ≡ Some n → (IsFunction n → ⊥) → NotLinked G p attr.Action t e (link_not_call p)
+  action_lacks : {G : Sc} {p : Place} {t v a b c d : Cn} {e : Ex} → CallsTop e → Found G e v → normal_of v ≡ Some (arrow a b) → normal_of b ≡ Some (arrow c d) → NotLinked G p attr.Action t e (link_not_call p)
+  not_carried : {G : Sc} {p : Place} {n : AttrName} {t v : Cn} {e : Ex} → CallsTop e → Found G e v → Alike t v → (IsLinked G n e → ⊥) → NotLinked G p n t e (not_serialisable p)
 
 -- a kind fault of a constructor
 abbrev pub OfKind : KindFaults → Sc → Place → Cn → Kd → Fault → Type 0
@@ -134,7 +143,7 @@ pub data FieldFault (K : KindFaults) : Sc → Fds → Fault → Type 0 where
 pub data AttributeFault : Sc → Cn → TagName → Ats → Fault → Type 0 where
   no_attribute : {G : Sc} {u : Cn} {g : TagName} {p : Place} {n : AttrName} {e : Ex} {as' : Ats} → attribute_type u g n ≡ None → AttributeFault G u g (attribute p n e as') (unbound p (an_attribute n))
   attribute_differs : {G : Sc} {u t v : Cn} {g : TagName} {p : Place} {n : AttrName} {e : Ex} {as' : Ats} {f : Fault} → attribute_type u g n ≡ Some t → Found G e v → Wants (place_of e) t v f → AttributeFault G u g (attribute p n e as') f
-  not_linked : {G : Sc} {u t : Cn} {g : TagName} {p : Place} {n : AttrName} {e : Ex} {as' : Ats} {f : Fault} → attribute_type u g n ≡ Some t → NotLinked G p n e f → AttributeFault G u g (attribute p n e as') f
+  not_linked : {G : Sc} {u t : Cn} {g : TagName} {p : Place} {n : AttrName} {e : Ex} {as' : Ats} {f : Fault} → attribute_type u g n ≡ Some t → NotLinked G p n t e f → AttributeFault G u g (attribute p n e as') f
   later_attribute : {G : Sc} {u : Cn} {g : TagName} {p : Place} {n : AttrName} {e : Ex} {as' : Ats} {f : Fault} → AttributeFault G u g as' f → AttributeFault G u g (attribute p n e as') f
 
 -- an attribute of this name, as the second one

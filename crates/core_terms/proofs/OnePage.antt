@@ -1,0 +1,163 @@
+-- The program of one page: that it is accepted, and its answer.
+use Rattle.std.proofs.Common.{◌≡◌, ℕ, zero, suc, ◌<◌, ◌≤◌, Bool, true, false, List, [], ◌∷◌, ◌++◌, length, Option, Some, None, refl, arith}
+use Rattle.std.specs.Prelude.{codes, ◌≢◌, Contains}
+use Rattle.std.specs.List.{All}
+use Rattle.std.proofs.lemmas.List.Elements.{All-from_recursion}
+use Rattle.con_terms.specs.Trees.{types, units, row_of, Cn, var, basic, app, record_of, name, row, no_pairs, pair}
+use Rattle.con_terms.specs.Equal.{same}
+use Rattle.con_terms.specs.Kinded.{Kinded, of_basic, of_app, of_row, of_name, of_unit, no_fields, a_field}
+use Rattle.table_rows.specs.Wires.{no_wires}
+use Rattle.table_rows.specs.Shapes.{Sh, a_record, a_data, parameter, shape, part, no_parts, no_shapes, no_shapes_have, Cases}
+use Rattle.link_router.specs.Calls.{Ent, Rts, Cl}
+use Rattle.link_router.specs.Links.{Route}
+use Rattle.xml_trees.specs.declared.tag.Tag.TheVariants as tag
+use Rattle.xml_trees.specs.Trees.{Nothing, Element}
+use Rattle.xml_trees.specs.Grammar.{NoAttributes, NoMarkup, Closed}
+use Rattle.xml_trees.specs.Markup.{Empty}
+use Rattle.core_terms.specs.Names.{html_context}
+use Rattle.core_terms.specs.Types.{no_types, type_row, at_types, page_type, transaction_of, unit_row}
+use Rattle.core_terms.specs.Trees.{Cd, Dt}
+use Rattle.core_terms.specs.Datatypes.{constructor_of}
+use Rattle.core_terms.specs.Scopes.{Sc}
+use Rattle.core_terms.specs.Typed.{Typed, of_basis, of_call, of_element, to_con, to_term, to_nothing, of_holding, no_attribute, no_node}
+use Rattle.core_terms.specs.Declarations.{DeclsTyped, no_decls, a_val, scope_with, Distinct}
+use Rattle.core_terms.specs.Entries.{IsEntry, by_export, by_link, by_action, Shaped, no_argument, EntriesFrom, no_values, get_alone, RoutesOf, DatatypesShaped, no_datatype, carried, CasesShaped, no_case, a_case, holds_nothing, holds_one, of_parameter, of_datatype, of_fields, AllShaped, none_shaped, one_shaped, no_field_shaped, field_shaped, all_datatypes}
+use Rattle.core_terms.specs.Accepts.{Accepts, Formed, EntriesDiffer}
+use Rattle.core_terms.specs.Requests.{Answers, Form, by_get, Arguments, no_more, Ends, with_page, ShortEnough}
+use Rattle.core_terms.specs.ExampleProgram.{one_page, get_main, OnePageIsAccepted, OnePageIsAnswered}
+
+none_in : {X : Type 0} {x : X} → Contains [] x → ⊥
+none_in c = absurd (omega (arith, c.1))
+
+abbrev top_level : Sc
+top_level = scope_with one_page [] []
+
+no_types_kinded : Kinded top_level.kinds no_types (row_of types)
+no_types_kinded = of_row no_fields tt
+
+html_kinded : Kinded top_level.kinds (unit_row (html_context ∷ [])) (row_of units)
+html_kinded = of_row (a_field of_name of_unit no_fields) ((λ k d h. absurd (omega (arith, h))), tt)
+
+page_kinded : Kinded top_level.kinds page_type types
+page_kinded = of_app (of_app (of_app (of_basic refl) html_kinded) no_types_kinded) no_types_kinded
+
+distinct : Distinct (3 ∷ 4 ∷ 5 ∷ [])
+distinct = (
+  All-from_recursion {X = ℕ} (λ y. 3 ≢ y) (4 ∷ 5 ∷ []) ((λ e. omega (arith, e)), ((λ e. omega (arith, e)), tt)),
+  (
+    All-from_recursion {X = ℕ} (λ y. 4 ≢ y) (5 ∷ []) ((λ e. omega (arith, e)), tt),
+    (All-from_recursion {X = ℕ} (λ y. 5 ≢ y) [] tt, tt),
+  ),
+)
+
+exported : All (λ i. i < 1) (0 ∷ [])
+exported = All-from_recursion (λ i. i < 1) (0 ∷ []) (omega arith, tt)
+
+no_action : (i : ℕ) (e : Ent) → IsEntry one_page i true e → ⊥
+no_action i e (by_action v t f) = none_in t
+
+exports_below : {i : ℕ} → Contains (0 ∷ []) i → i < 1
+exports_below {i} c = omega (arith, exported c.0 i c.1, c.2)
+
+one_value : (i : ℕ) (e : Ent) → IsEntry one_page i false e → i < 1
+one_value i e (by_export v x p) = exports_below x
+one_value i e (by_link v t p) = absurd (none_in t)
+
+same_number : (i j : ℕ) → i < 1 → j < 1 → i ≡ j
+same_number i j h g = omega (arith, h, g)
+
+differ : EntriesDiffer one_page
+differ i j true e d h g n = absurd (no_action i e h)
+differ i j false e d h g n = absurd (n (same_number i j (one_value i e h) (one_value j d g)))
+
+pub accepted : OnePageIsAccepted
+accepted = record {
+  formed = record { texts = refl; symbols = distinct; exported = exported };
+  typed = a_val (of_app (of_basic refl) page_kinded)
+      (of_call of_basis (to_con page_kinded (to_term (of_element (of_holding false refl tt same no_attribute (no_node no_types_kinded))) to_nothing))) no_decls;
+  entries = differ;
+}
+
+-- the routes: one entry, by GET
+abbrev main_entry : Ent
+main_entry = record { name = codes "Main" ∷ codes "main" ∷ []; arguments = no_shapes; form = None }
+
+main_is_entry : IsEntry one_page 0 false main_entry
+main_is_entry = by_export refl (0, omega arith, refl) (no_argument same)
+
+-- the constructors of bool, option and list
+abbrev bool_constructors : List Cd
+bool_constructors = constructor_of 20 None ∷ constructor_of 21 None ∷ []
+
+abbrev option_constructors : List Cd
+option_constructors = constructor_of 22 None ∷ constructor_of 23 (Some (var 0)) ∷ []
+
+abbrev cons_type : Cn
+cons_type = record_of (type_row (pair (name 18) (var 0) (pair (name 19) (at_types (basic 5) (var 0 ∷ [])) no_pairs)))
+
+abbrev list_constructors : List Cd
+list_constructors = constructor_of 24 None ∷ constructor_of 25 (Some cons_type) ∷ []
+
+-- their cases
+abbrev texts : List (List ℕ)
+texts = one_page.names
+
+abbrev known : List Dt
+known = all_datatypes one_page
+
+abbrev bool_cases : Cases
+bool_cases = (codes "False", None) ∷ (codes "True", None) ∷ []
+
+abbrev option_cases : Cases
+option_cases = (codes "None", None) ∷ (codes "Some", Some (parameter 0)) ∷ []
+
+abbrev cons_shape : Sh
+cons_shape = a_record (part (codes "1") (parameter 0) (part (codes "2") (a_data 2 (shape (parameter 0) no_shapes)) no_parts))
+
+abbrev list_cases : Cases
+list_cases = (codes "Nil", None) ∷ (codes "Cons", Some cons_shape) ∷ []
+
+cases_of_bool : CasesShaped texts known 0 (bool_constructors) bool_cases
+cases_of_bool = a_case refl holds_nothing (a_case refl holds_nothing no_case)
+
+cases_of_option : CasesShaped texts known 1 (option_constructors) option_cases
+cases_of_option = a_case refl holds_nothing (a_case refl (holds_one of_parameter) no_case)
+
+list_is_known : ◌≡◌ {A = ℕ} 5 3 → ⊥
+list_is_known e = omega (arith, e)
+
+held_by_cons : Shaped texts known 1 cons_type cons_shape
+held_by_cons =
+    of_fields refl refl (field_shaped refl of_parameter (field_shaped refl (of_datatype refl refl list_is_known refl (one_shaped of_parameter none_shaped)) no_field_shaped))
+
+cases_of_list : CasesShaped texts known 1 (list_constructors) list_cases
+cases_of_list = a_case refl holds_nothing (a_case refl (holds_one held_by_cons) no_case)
+
+abbrev routes : Rts
+routes = record { datatypes = bool_cases ∷ option_cases ∷ list_cases ∷ []; entries = main_entry ∷ [] }
+
+are_routes : RoutesOf one_page routes (0 ∷ [])
+are_routes = record {
+  listed = (0, main_entry) ∷ [];
+  are_entries = get_alone main_is_entry (no_action 0) no_values;
+  entries = refl;
+  called = refl;
+  datatypes = carried cases_of_bool (carried cases_of_option (carried cases_of_list no_datatype));
+}
+
+-- the call, and the page's text
+abbrev main_call : Cl
+main_call = record { entry = 0; wires = no_wires; form = None; cookie = [] }
+
+is_routed : Route routes false (codes "/Main/main") main_call
+is_routed = record { entry = main_entry; is_entry = refl; by_method = refl; shapes = no_shapes_have; carried = tt; same_pieces = refl; no_form = refl; no_cookie = refl }
+
+short_page : ShortEnough (Element tag.Body [] Nothing Nothing)
+short_page = record {
+  bytes = codes "<!DOCTYPE html><html><body></body></html>";
+  text = (codes "<body></body>", refl, Closed (codes "body") [] [] [] [] Empty Empty (refl, refl) refl NoAttributes NoMarkup NoMarkup);
+  short = omega arith;
+}
+
+pub main_answered : OnePageIsAnswered
+main_answered read = by_get are_routes is_routed refl refl refl refl (no_more same) (with_page short_page)

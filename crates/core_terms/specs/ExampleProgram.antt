@@ -1,0 +1,42 @@
+-- A whole program and a request of it, worked out: one value, main, that returns one page.
+use Rattle.std.specs.Prelude.{ℕ, true, false, List, [], ◌∷◌, ◌++◌, None, codes}
+use Rattle.table_rows.specs.Shapes.{Sh}
+use Rattle.link_router.specs.Calls.{Asked}
+use Rattle.xml_trees.specs.declared.tag.Tag.TheVariants as tag
+use Rattle.xml_trees.specs.Trees.{Nothing, Element}
+use Rattle.core_terms.specs.declared.basis.BasisName.TheVariants.{Return}
+use Rattle.core_terms.specs.declared.markup.TagName.TheVariants as word
+use Rattle.core_terms.specs.Names.{basis_texts}
+use Rattle.core_terms.specs.Types.{no_types, page_type, transaction_of}
+use Rattle.core_terms.specs.Trees.{Ex, basis, call, element, no_items, with_term, tagged, no_attributes, no_nodes, val, Pg}
+use Rattle.core_terms.specs.Accepts.{Accepts}
+use Rattle.core_terms.specs.Requests.{Answers, Form, finished}
+use Rattle.core_terms.specs.ExampleTerms.{byte, said, with_added, in_html_row}
+
+-- <xml><body></body></xml>
+abbrev pub empty_body : Ex
+empty_body = said (element (tagged word.Body None in_html_row no_types no_attributes no_nodes))
+
+-- val main : transaction page = return <xml><body></body></xml>
+abbrev pub one_page : Pg
+one_page = record {
+  names = basis_texts ++ codes "main" ∷ [];
+  modules = codes "Main" ∷ [];
+  decls = val (byte 0) 26 true (transaction_of page_type) (said (call (said (basis Return)) (with_added page_type (with_term empty_body no_items)))) ∷ [];
+  rules = [];
+  foreigns = [];
+  folders = [];
+  exports = 0 ∷ [];
+}
+
+-- GET /Main/main
+abbrev pub get_main : Asked
+get_main = record { post = false; path = codes "/Main/main"; body = []; cookie = [] }
+
+-- The program is accepted.
+abbrev pub OnePageIsAccepted : Type 0
+OnePageIsAccepted = Accepts one_page
+
+-- Its answer to GET /Main/main is the page, within eight steps; forms don't matter.
+abbrev pub OnePageIsAnswered : Type 0
+OnePageIsAnswered = (read : Sh → List ℕ → Form) → Answers read one_page get_main 8 (finished (Element tag.Body [] Nothing Nothing) [] [])
