@@ -1,8 +1,8 @@
 //! The state of reading, and its steps.
-ghost use Rattle.std.specs.Prelude.{◌≡◌, ◌++◌, ◌∷◌, [], drop, false, OnOk, IfOk, IfSome, IsTrue};
+ghost use Rattle.std.specs.Prelude.{◌≡◌, ◌≤◌, ◌++◌, ◌∷◌, [], drop, false, OnOk, IfOk, IfSome, IsTrue};
 ghost use Rattle.surface_grammar.specs.Fronts.{first_kind};
 ghost use Rattle.surface_grammar.specs.Table.{body_of};
-ghost use Rattle.surface_grammar.specs.Trees.{must_go_on};
+ghost use Rattle.surface_grammar.specs.Trees.{depth_of, must_go_on};
 ghost use Rattle.grammar_engine.specs.Moves.{Begun, Chosen, Expands, Goes, Takes, wants_of};
 ghost use Rattle.grammar_engine.specs.Places.{name_at};
 
@@ -11,7 +11,7 @@ use crate::{Stop, Want, Wants};
 use std::alloc::{AllocError, Global};
 use surface_grammar::sides::is_tag;
 use surface_grammar::words::accepts;
-use surface_grammar::{Form, Mark, Part, Rule, Tree};
+use surface_grammar::{Form, Mark, Part, Rule, SqlRule, Tree};
 use surface_tree::{Kind, Tokens};
 
 /// How far reading has come: the place of the next token, what is still to be read, the tree so
@@ -29,6 +29,18 @@ fn is_named(tokens: &Tokens, place: usize, tag: usize) -> bool
     ensures { IsTrue result → name_at tokens.now.items place ≡ name_at tokens.now.items tag }
 {
     place < tokens.len() && tag < tokens.len() && same_name(tokens.at(place), tokens.at(tag))
+}
+
+/// How many levels every tree of the rule has, as far as its first token doesn't show it: where
+/// there is less room, no tree allows that token.
+fn least_room(rule: Rule) -> u32
+    ensures { depth_of rule ≤ result }
+{
+    match rule {
+        Rule::Sql(SqlRule::ItemBraces | SqlRule::TableBraces) => 2,
+        Rule::Sql(SqlRule::SqlInsert) => 1,
+        _ => u32::from(rule.is_deep()),
+    }
 }
 
 /// The first rule of the form that the token begins.
@@ -125,7 +137,7 @@ impl Machine {
         requires { Chosen form (first_kind (drop self.old.at tokens.now.items)) rule }
         ensures { OnOk result (Expands tokens.now.items form room tag self.old self.new) }
     {
-        if rule.is_deep() && room == 0 {
+        if room < least_room(rule) {
             return Err(self.refuse());
         }
         let inner = if rule.is_deep() { room - 1 } else { room };

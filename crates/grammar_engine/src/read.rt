@@ -76,7 +76,7 @@ fn meet(
         }
         Part::Many(form) => Ok(machine.again(tokens, form, want.room, want.tag)?),
         Part::Maybe(form) => {
-            let taken = goes_on(machine, alloc, tokens, form, want.room, races)?;
+            let taken = goes_on(machine, alloc, tokens, form, races)?;
             Ok(machine.perhaps(tokens, form, want.room, want.tag, taken)?)
         }
     }
@@ -144,7 +144,6 @@ fn goes_on(
     alloc: Global,
     tokens: &Tokens,
     form: Form,
-    room: u32,
     races: u32,
 ) -> Result<bool, AllocError>
     ensures sure { IfOk result (λ taken. taken ≡ false → must_go_on form (first_kind (drop machine.old.at tokens.now.items)) ≡ false) }
@@ -153,34 +152,40 @@ fn goes_on(
     let next = kind_at(tokens, machine.at);
     match (form, next) {
         (Form::ConForall, Some(Kind::DoubleColon)) => {
-            Ok(!is_kind_mark(machine, alloc, tokens, room, races)?)
+            Ok(!is_kind_mark(machine, alloc, tokens, races)?)
         }
         _ => Ok(form.begins(next)),
     }
 }
 
 /// Whether the `::` here is that of a constructor with its kind in brackets: a constructor may end
-/// here, and a kind and `)` follow.
+/// here, and a kind and `)` follow, for which there is as much room as in the brackets.
 #[cycle(read)]
 fn is_kind_mark(
     machine: &mut Machine,
     alloc: Global,
     tokens: &Tokens,
-    room: u32,
     races: u32,
 ) -> Result<bool, AllocError>
     ensures { OnOk result (Kept machine.old machine.new) }
 {
     match machine.wants.first_solid() {
-        Some(Part::One(Form::ConParenEnd)) => {}
-        _ => return Ok(false),
+        Some(
+            Want {
+                part: Part::One(Form::ConParenEnd),
+                room,
+                ..
+            },
+        ) => {
+            let way = Way {
+                form: Form::KindTerm,
+                start: machine.at.saturating_add(1),
+                behind: Kind::RightParenthesis,
+            };
+            try_way(machine, alloc, tokens, way, room, races)
+        }
+        _ => Ok(false),
     }
-    let way = Way {
-        form: Form::KindTerm,
-        start: machine.at.saturating_add(1),
-        behind: Kind::RightParenthesis,
-    };
-    try_way(machine, alloc, tokens, way, room, races)
 }
 
 /// Whether the way is open. Where it isn't, the place at which it is refused is kept.
@@ -195,7 +200,11 @@ fn try_way(
 ) -> Result<bool, AllocError>
     ensures { OnOk result (Kept machine.old machine.new) }
 {
-    if races == 0 || !way.form.begins(kind_at(tokens, way.start)) {
+    if races == 0 {
+        return Ok(false);
+    }
+    if !way.form.begins(kind_at(tokens, way.start)) {
+        machine.far = machine.far.max(way.start);
         return Ok(false);
     }
     match read_part(

@@ -55,12 +55,12 @@ impl Wants {
         self.stack.pop()
     }
 
-    /// The first part to be read that can't be left out.
-    pub fn first_solid(&self) -> Option<Part> {
+    /// The first that can't be left out.
+    pub fn first_solid(&self) -> Option<Want> {
         for want in self.stack.iter().rev() {
             match want.part {
                 Part::Many(_) | Part::Maybe(_) => {}
-                solid => return Some(solid),
+                _ => return Some(*want),
             }
         }
         None

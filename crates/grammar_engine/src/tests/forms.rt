@@ -192,9 +192,6 @@ fn reads_pages(rt: HostRuntime) {
 #[test]
 fn reads_interfaces(rt: HostRuntime) {
     let alloc = rt.alloc();
-    let texts = [
-        "val x : int",
-        "val f : int -> int val g : a",
-    ];
+    let texts = ["val x : int", "val f : int -> int val g : a"];
     assert!(&rt; are_read(alloc, Form::InterfaceItem, &texts));
 }
