@@ -206,7 +206,7 @@ fn chains_may_be_long(rt: HostRuntime) {
         close: "",
         end: "",
     };
-    assert!(&rt; fault_of_nested(alloc, &sum, 20_000) == Ok(None));
+    assert!(&rt; fault_of_nested(alloc, &sum, 4_000) == Ok(None));
     let calls = Nested {
         front: "val x = f ",
         open: "y ",
@@ -214,7 +214,7 @@ fn chains_may_be_long(rt: HostRuntime) {
         close: "",
         end: "",
     };
-    assert!(&rt; fault_of_nested(alloc, &calls, 20_000) == Ok(None));
+    assert!(&rt; fault_of_nested(alloc, &calls, 4_000) == Ok(None));
     let declarations = Nested {
         front: "",
         open: "val x = 1 ",
@@ -222,7 +222,7 @@ fn chains_may_be_long(rt: HostRuntime) {
         close: "",
         end: "",
     };
-    assert!(&rt; fault_of_nested(alloc, &declarations, 10_000) == Ok(None));
+    assert!(&rt; fault_of_nested(alloc, &declarations, 2_000) == Ok(None));
     let siblings = Nested {
         front: "val x = <xml> ",
         open: "<b /> ",
@@ -230,7 +230,7 @@ fn chains_may_be_long(rt: HostRuntime) {
         close: "",
         end: "</xml> ",
     };
-    assert!(&rt; fault_of_nested(alloc, &siblings, 20_000) == Ok(None));
+    assert!(&rt; fault_of_nested(alloc, &siblings, 4_000) == Ok(None));
     let names = Nested {
         front: "val x = ",
         open: "A . ",
@@ -238,7 +238,7 @@ fn chains_may_be_long(rt: HostRuntime) {
         close: "",
         end: "",
     };
-    assert!(&rt; fault_of_nested(alloc, &names, 20_000) == Ok(None));
+    assert!(&rt; fault_of_nested(alloc, &names, 4_000) == Ok(None));
     let rows = Nested {
         front: "type x = ",
         open: "$ ",
@@ -246,5 +246,5 @@ fn chains_may_be_long(rt: HostRuntime) {
         close: "",
         end: "",
     };
-    assert!(&rt; fault_of_nested(alloc, &rows, 20_000) == Ok(None));
+    assert!(&rt; fault_of_nested(alloc, &rows, 4_000) == Ok(None));
 }
