@@ -1,2 +1,11 @@
-//! To be written.
+//! Which rows are apart: guards that are assumed, and the first pieces that they don't separate.
+//!
+//! What it means to be apart stands in `con_terms`; how two normal forms are compared stands in `specs/`.
 #![tactic(auto)]
+
+pub mod fault;
+pub mod guards;
+pub mod prover;
+pub mod same;
+#[cfg(test)]
+mod tests;

@@ -1,0 +1,113 @@
+-- What is computed to be separated is separated: rows of which each pair of pieces is are apart.
+use Rattle.std.proofs.Common.{◌≡◌, ◌≢◌, ℕ, zero, suc, ◌+◌, ◌<◌, List, [], ◌∷◌, ◌++◌, length, refl, ap, arith, ◌∙◌, sym, subst, Bool, ◌&&◌, ◌||◌, not, true, false, Option, Some, None, if◌then◌else◌, ◌⊎◌, inl, inr, Result, Ok, Err, IfOk}
+use Rattle.std.specs.List.{All, Contains}
+use Rattle.std.specs.Option.{option_or}
+use Rattle.std.proofs.lemmas.Bool.{eqb-true, eq-eqb}
+use Rattle.std.proofs.lemmas.List.Elements.{All-cons, All-nil}
+use Rattle.con_terms.specs.Trees.{Cn, name}
+use Rattle.con_terms.specs.Equal.{same}
+use Rattle.con_terms.specs.Apart.{Guards, pieces, both_literal, HasPiece, has_piece, Separated, names_differ, by_guard, by_guard_turned, AllSeparated, Apart, apart}
+use Rattle.disjoint_prover.specs.Same.{cn_eq}
+use Rattle.disjoint_prover.specs.Separation.{among, separated_by, separated_by_some, separates, with_each, pairs_of, first_of, first_touch}
+use Rattle.disjoint_prover.specs.View.{Gives}
+use Rattle.disjoint_prover.specs.declared.fault.DisjointFault.{DisjointFault}
+use Rattle.disjoint_prover.proofs.SameCons.{cn_eq_same}
+use Rattle.disjoint_prover.proofs.Pieces.{first_append}
+
+pub contains_head : {X : Type 0} (x : X) (xs : List X) → Contains (x ∷ xs) x
+contains_head x xs = (0, omega arith, refl)
+
+pub contains_tail : {X : Type 0} (x y : X) (xs : List X) → Contains xs x → Contains (y ∷ xs) x
+contains_tail x y xs (k, h, e) = (suc k, omega arith, e)
+
+both_true : (a b : Bool) → (a && b) ≡ true → (a ≡ true) × (b ≡ true)
+both_true true b h = (refl, h)
+both_true false b h = cc
+
+one_true : (a b : Bool) → (a || b) ≡ true → (a ≡ true) ⊎ (b ≡ true)
+one_true true b h = inl refl
+one_true false b h = inr h
+
+-- what is among some is one of them
+among_contains : (p : Cn) (xs : List Cn) → among p xs ≡ true → Contains xs p
+among_contains p [] h = cc
+among_contains p (x ∷ xs) h =
+    elim (one_true (cn_eq x p) (among p xs) h) [
+      | inl e ↦ let P : Cn → Type 0 = λ y. Contains (y ∷ xs) p in subst P (sym (cn_eq_same x p e)) (contains_head p xs)
+      | inr e ↦ contains_tail p x xs (among_contains p xs e)
+    ]
+
+in_row : (p c : Cn) → among p (pieces c) ≡ true → HasPiece c p
+in_row p c h = has_piece same (among_contains p (pieces c) h)
+
+guarded_one : (gs : Guards) (g : Cn × Cn) (p q : Cn) → both_literal p q ≡ false → Contains gs g → separated_by g p q ≡ true → Separated gs p q
+guarded_one gs g p q n m h =
+    elim (one_true (among p (pieces g.0) && among q (pieces g.1)) _ h) [
+      | inl e ↦ let (l, r) = both_true (among p (pieces g.0)) (among q (pieces g.1)) e in by_guard n m (in_row p g.0 l) (in_row q g.1 r)
+      | inr e ↦ let (l, r) = both_true (among q (pieces g.0)) (among p (pieces g.1)) e in by_guard_turned n m (in_row q g.0 l) (in_row p g.1 r)
+    ]
+
+guarded_some : (gs hs : Guards) (p q : Cn) → both_literal p q ≡ false → ((g : Cn × Cn) → Contains hs g → Contains gs g) → separated_by_some hs p q ≡ true → Separated gs p q
+guarded_some gs [] p q n sub h = cc
+guarded_some gs (g ∷ hs) p q n sub h =
+    elim (one_true (separated_by g p q) (separated_by_some hs p q) h) [
+      | inl e ↦ guarded_one gs g p q n (sub g (contains_head g hs)) e
+      | inr e ↦ guarded_some gs hs p q n (λ k m. sub k (contains_tail k g hs m)) e
+    ]
+
+-- literal names
+second_name : (s : ℕ) (q : Cn) → both_literal (name s) q ≡ true → (t : ℕ) × (q ≡ name t)
+second_name s (name t) h = (t, refl)
+second_name s _ h = cc
+
+both_names : (p q : Cn) → both_literal p q ≡ true → (s : ℕ) × (t : ℕ) × (p ≡ name s) × (q ≡ name t)
+both_names (name s) q h = let (t, e) = second_name s q h in (s, t, refl, e)
+both_names _ q h = cc
+
+names_apart : (gs : Guards) (s t : ℕ) → not (cn_eq (name s) (name t)) ≡ true → Separated gs (name s) (name t)
+names_apart gs s t h = names_differ (λ e. let b = eq-eqb s t e in absurd (cc (ap not b)))
+
+pub separates_sound : (gs : Guards) (p q : Cn) → separates gs p q ≡ true → Separated gs p q
+separates_sound gs p q h = by_test (both_literal p q) refl h
+  where
+    by_test : (b : Bool) → both_literal p q ≡ b → (if b then not (cn_eq p q) else separated_by_some gs p q) ≡ true → Separated gs p q
+    by_test false e g = guarded_some gs gs p q e (λ k m. m) g
+    by_test true e g =
+        let (s, t, i, j) = both_names p q e in
+        let P : Cn → Type 0 = λ x. Separated gs x q in
+        let Q : Cn → Type 0 = λ y. Separated gs (name s) y in
+        let g' : not (cn_eq (name s) (name t)) ≡ true = ap (λ x. not (cn_eq x (name t))) (sym i) ∙ ap (λ y. not (cn_eq p y)) (sym j) ∙ g in
+        subst P (sym i) (subst Q (sym j) (names_apart gs s t g'))
+
+none_or : {X : Type 0} (o p : Option X) → option_or o p ≡ None → (o ≡ None) × (p ≡ None)
+none_or None p h = (refl, h)
+none_or (Some x) p h = cc
+
+one_sound : (gs : Guards) (p q : Cn) → first_of gs ((p, q) ∷ []) ≡ None → Separated gs p q
+one_sound gs p q h = separates_sound gs p q (tested (separates gs p q) (p, q) h)
+  where
+    tested : (b : Bool) (pq : Cn × Cn) → (if not b then Some pq else None) ≡ None → b ≡ true
+    tested true pq g = refl
+    tested false pq g = cc
+
+each_sound : (gs : Guards) (p : Cn) (qs : List Cn) → first_of gs (with_each p qs) ≡ None → All (Separated gs p) qs
+each_sound gs p [] h = All-nil (Separated gs p)
+each_sound gs p (q ∷ qs) h =
+    let (l, r) = none_or _ _ (sym (first_append gs ((p, q) ∷ []) (with_each p qs)) ∙ h) in
+    All-cons (Separated gs p) q qs (one_sound gs p q l) (each_sound gs p qs r)
+
+all_sound : (gs : Guards) (ps qs : List Cn) → first_of gs (pairs_of ps qs) ≡ None → AllSeparated gs ps qs
+all_sound gs [] qs h = All-nil (λ p. All (Separated gs p) qs)
+all_sound gs (p ∷ ps) qs h =
+    let (l, r) = none_or _ _ (sym (first_append gs (with_each p qs) (pairs_of ps qs)) ∙ h) in
+    All-cons (λ p. All (Separated gs p) qs) p ps (each_sound gs p qs l) (all_sound gs ps qs r)
+
+pub touch_sound : (gs : Guards) (c d : Cn) → first_touch gs c d ≡ None → Apart gs c d
+touch_sound gs c d h = apart same same (all_sound gs (pieces c) (pieces d) h)
+
+pub gives_apart : {X : Type 0} (r : Result X DisjointFault) (gs : Guards) (c d c' d' : Cn) → c ≡ c' → d ≡ d' → Gives r (first_touch gs c d) → IfOk r (λ _. Apart gs c' d')
+gives_apart (Ok x) gs c d c' d' i j h =
+    let P : Cn → Type 0 = λ z. Apart gs z d in
+    let Q : Cn → Type 0 = λ z. Apart gs c' z in
+    subst Q j (subst P i (touch_sound gs c d h))
+gives_apart (Err e) gs c d c' d' i j h = tt
