@@ -199,22 +199,3 @@ fn units_to_the_last(rt: HostRuntime) -> Result<(), Fail> {
     assert_eq!(rt; fuel.left, 1);
     Ok(())
 }
-
-#[test]
-fn as_deep_as_the_limit(rt: HostRuntime) -> Result<(), Fail> {
-    let alloc = rt.alloc();
-    let mut c = INT;
-    for _ in 0..1999 {
-        c = record(alloc, c)?;
-    }
-    let mut fuel = Fuel { left: 1 };
-    assert!(rt; normal(alloc, &c, &Kind::Types, &mut fuel).is_ok());
-    let deeper = record(alloc, c)?;
-    assert!(rt;
-        matches!(
-            normal(alloc, &deeper, &Kind::Types, &mut fuel),
-            Err(NormalFault::TooLarge)
-        )
-    );
-    Ok(())
-}
