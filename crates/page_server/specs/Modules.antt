@@ -55,3 +55,11 @@ IsRefused bytes (OpenComment at) = IsModule bytes × IsTold bytes (lexer.OpenCom
 IsRefused bytes (IntTooLarge at) = IsModule bytes × IsTold bytes (lexer.IntTooLarge at)
 IsRefused bytes NotBuilt = IsModule bytes × HasNoForm bytes
 IsRefused bytes Memory = Unit {0}
+
+-- A module that has a page is refused for no reason but want of memory.
+abbrev pub ModulesHaveOneAnswer : Type 0
+ModulesHaveOneAnswer = (bytes : List ℕ) (trees : Trees) (fault : ModuleFault) → HasPage bytes trees → IsRefused bytes fault → fault ≡ Memory
+
+-- A module has one page at most.
+abbrev pub ModulesHaveOnePage : Type 0
+ModulesHaveOnePage = (bytes : List ℕ) (trees others : Trees) → HasPage bytes trees → HasPage bytes others → trees ≡ others
