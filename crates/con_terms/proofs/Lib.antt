@@ -5,3 +5,4 @@ pub mod Walks
 pub mod Equals
 pub mod SameKinds
 pub mod Copied
+pub mod SymbolTexts

@@ -1,5 +1,4 @@
 pub mod Lists
-pub mod SameCons
 pub mod Pieces
 pub mod Trees
 pub mod Sound

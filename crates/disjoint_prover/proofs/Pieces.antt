@@ -10,7 +10,7 @@ use Rattle.con_terms.specs.declared.con.Pairs.{Pairs, out-Pairs}
 use Rattle.con_terms.specs.Trees.{names_of, Kd, Cn, Cns, Prs, var, basic, arrow, poly, guarded, record_of, app, lambda, unit_con, name, row, cat, map_of, tuple, proj}
 use Rattle.con_terms.specs.Apart.{Guards, pieces}
 use Rattle.disjoint_prover.proofs.Lists.{drop_in}
-use Rattle.disjoint_prover.specs.Same.{cn_eq}
+use Rattle.row_normal.specs.SameTree.{cn_eq}
 use Rattle.disjoint_prover.specs.Separation.{is_mapping, among, first_of, first_touch, pairs_of, with_each}
 use Rattle.disjoint_prover.specs.View.{Gives, Tells}
 use Rattle.disjoint_prover.specs.declared.fault.DisjointFault.{DisjointFault}

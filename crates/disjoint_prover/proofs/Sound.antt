@@ -1,5 +1,5 @@
 -- What is computed to be separated is separated: rows of which each pair of pieces is are apart.
-use Rattle.std.proofs.Common.{◌≡◌, ◌≢◌, ℕ, zero, suc, ◌+◌, ◌<◌, List, [], ◌∷◌, ◌++◌, length, refl, ap, arith, ◌∙◌, sym, subst, Bool, ◌&&◌, ◌||◌, not, true, false, Option, Some, None, if◌then◌else◌, ◌⊎◌, inl, inr, Result, Ok, Err, IfOk}
+use Rattle.std.proofs.Common.{◌≡◌, ◌≢◌, ℕ, zero, suc, ◌+◌, ◌<◌, List, [], ◌∷◌, ◌++◌, length, refl, ap, arith, ◌∙◌, sym, subst, Bool, ◌&&◌, ◌||◌, not, true, false, Option, Some, None, ◌⊎◌, inl, inr, Result, Ok, Err, IfOk}
 use Rattle.std.specs.List.{All, Contains}
 use Rattle.std.specs.Option.{option_or}
 use Rattle.std.proofs.lemmas.Bool.{eqb-true, eq-eqb}
@@ -7,11 +7,11 @@ use Rattle.std.proofs.lemmas.List.Elements.{All-cons, All-nil}
 use Rattle.con_terms.specs.Trees.{Cn, name}
 use Rattle.con_terms.specs.Equal.{same}
 use Rattle.con_terms.specs.Apart.{Guards, pieces, both_literal, HasPiece, has_piece, Separated, names_differ, by_guard, by_guard_turned, AllSeparated, Apart, apart}
-use Rattle.disjoint_prover.specs.Same.{cn_eq}
+use Rattle.row_normal.specs.SameTree.{cn_eq}
 use Rattle.disjoint_prover.specs.Separation.{among, separated_by, separated_by_some, separates, with_each, pairs_of, first_of, first_touch}
 use Rattle.disjoint_prover.specs.View.{Gives}
 use Rattle.disjoint_prover.specs.declared.fault.DisjointFault.{DisjointFault}
-use Rattle.disjoint_prover.proofs.SameCons.{cn_eq_same}
+use Rattle.row_normal.proofs.SameTrees.{cn_eq_same}
 use Rattle.disjoint_prover.proofs.Pieces.{first_append}
 
 pub contains_head : {X : Type 0} (x : X) (xs : List X) → Contains (x ∷ xs) x
@@ -40,19 +40,19 @@ among_contains p (x ∷ xs) h =
 in_row : (p c : Cn) → among p (pieces c) ≡ true → HasPiece c p
 in_row p c h = has_piece same (among_contains p (pieces c) h)
 
-guarded_one : (gs : Guards) (g : Cn × Cn) (p q : Cn) → both_literal p q ≡ false → Contains gs g → separated_by g p q ≡ true → Separated gs p q
-guarded_one gs g p q n m h =
+guarded_one : (gs : Guards) (g : Cn × Cn) (p q : Cn) → Contains gs g → separated_by g p q ≡ true → Separated gs p q
+guarded_one gs g p q m h =
     elim (one_true (among p (pieces g.0) && among q (pieces g.1)) _ h) [
-      | inl e ↦ let (l, r) = both_true (among p (pieces g.0)) (among q (pieces g.1)) e in by_guard n m (in_row p g.0 l) (in_row q g.1 r)
-      | inr e ↦ let (l, r) = both_true (among q (pieces g.0)) (among p (pieces g.1)) e in by_guard_turned n m (in_row q g.0 l) (in_row p g.1 r)
+      | inl e ↦ let (l, r) = both_true (among p (pieces g.0)) (among q (pieces g.1)) e in by_guard m (in_row p g.0 l) (in_row q g.1 r)
+      | inr e ↦ let (l, r) = both_true (among q (pieces g.0)) (among p (pieces g.1)) e in by_guard_turned m (in_row q g.0 l) (in_row p g.1 r)
     ]
 
-guarded_some : (gs hs : Guards) (p q : Cn) → both_literal p q ≡ false → ((g : Cn × Cn) → Contains hs g → Contains gs g) → separated_by_some hs p q ≡ true → Separated gs p q
-guarded_some gs [] p q n sub h = cc
-guarded_some gs (g ∷ hs) p q n sub h =
+guarded_some : (gs hs : Guards) (p q : Cn) → ((g : Cn × Cn) → Contains hs g → Contains gs g) → separated_by_some hs p q ≡ true → Separated gs p q
+guarded_some gs [] p q sub h = cc
+guarded_some gs (g ∷ hs) p q sub h =
     elim (one_true (separated_by g p q) (separated_by_some hs p q) h) [
-      | inl e ↦ guarded_one gs g p q n (sub g (contains_head g hs)) e
-      | inr e ↦ guarded_some gs hs p q n (λ k m. sub k (contains_tail k g hs m)) e
+      | inl e ↦ guarded_one gs g p q (sub g (contains_head g hs)) e
+      | inr e ↦ guarded_some gs hs p q (λ k m. sub k (contains_tail k g hs m)) e
     ]
 
 -- literal names
@@ -67,17 +67,20 @@ both_names _ q h = cc
 names_apart : (gs : Guards) (s t : ℕ) → not (cn_eq (name s) (name t)) ≡ true → Separated gs (name s) (name t)
 names_apart gs s t h = names_differ (λ e. let b = eq-eqb s t e in absurd (cc (ap not b)))
 
+literals_apart : (gs : Guards) (p q : Cn) → both_literal p q ≡ true → not (cn_eq p q) ≡ true → Separated gs p q
+literals_apart gs p q e g =
+    let (s, t, i, j) = both_names p q e in
+    let P : Cn → Type 0 = λ x. Separated gs x q in
+    let Q : Cn → Type 0 = λ y. Separated gs (name s) y in
+    let g' : not (cn_eq (name s) (name t)) ≡ true = ap (λ x. not (cn_eq x (name t))) (sym i) ∙ ap (λ y. not (cn_eq p y)) (sym j) ∙ g in
+    subst P (sym i) (subst Q (sym j) (names_apart gs s t g'))
+
 pub separates_sound : (gs : Guards) (p q : Cn) → separates gs p q ≡ true → Separated gs p q
-separates_sound gs p q h = by_test (both_literal p q) refl h
-  where
-    by_test : (b : Bool) → both_literal p q ≡ b → (if b then not (cn_eq p q) else separated_by_some gs p q) ≡ true → Separated gs p q
-    by_test false e g = guarded_some gs gs p q e (λ k m. m) g
-    by_test true e g =
-        let (s, t, i, j) = both_names p q e in
-        let P : Cn → Type 0 = λ x. Separated gs x q in
-        let Q : Cn → Type 0 = λ y. Separated gs (name s) y in
-        let g' : not (cn_eq (name s) (name t)) ≡ true = ap (λ x. not (cn_eq x (name t))) (sym i) ∙ ap (λ y. not (cn_eq p y)) (sym j) ∙ g in
-        subst P (sym i) (subst Q (sym j) (names_apart gs s t g'))
+separates_sound gs p q h =
+    elim (one_true (both_literal p q && not (cn_eq p q)) (separated_by_some gs p q) h) [
+      | inl e ↦ let (l, r) = both_true (both_literal p q) (not (cn_eq p q)) e in literals_apart gs p q l r
+      | inr e ↦ guarded_some gs gs p q (λ k m. m) e
+    ]
 
 none_or : {X : Type 0} (o p : Option X) → option_or o p ≡ None → (o ≡ None) × (p ≡ None)
 none_or None p h = (refl, h)

@@ -1,10 +1,10 @@
 -- How the rules of disjointness are used on normal forms: which pieces they separate, and the first pair that they don't.
 -- The Ur/Web Manual, "Record Disjointness".
-use Rattle.std.specs.Prelude.{Bool, true, false, ◌&&◌, ◌||◌, not, List, [], ◌∷◌, ◌++◌, Option, map, if◌then◌else◌}
+use Rattle.std.specs.Prelude.{Bool, true, false, ◌&&◌, ◌||◌, not, List, [], ◌∷◌, ◌++◌, Option, map}
 use Rattle.std.specs.List.{find}
 use Rattle.con_terms.specs.Trees.{Cn, app, map_of}
 use Rattle.con_terms.specs.Apart.{Guards, pieces, both_literal}
-use Rattle.disjoint_prover.specs.Same.{cn_eq}
+use Rattle.row_normal.specs.SameTree.{cn_eq}
 
 -- whether this is a map with its function, which wants only its row
 abbrev pub is_mapping : Cn → Bool
@@ -27,7 +27,7 @@ separated_by_some (g ∷ gs) p q = separated_by g p q || separated_by_some gs p 
 
 -- whether two pieces are separated: literal names that differ, or pieces of the two sides of a guard
 abbrev pub separates : Guards → Cn → Cn → Bool
-separates gs p q = if both_literal p q then not (cn_eq p q) else separated_by_some gs p q
+separates gs p q = (both_literal p q && not (cn_eq p q)) || separated_by_some gs p q
 
 -- p with each of qs, in order
 abbrev pub with_each : Cn → List Cn → List (Cn × Cn)

@@ -6,6 +6,3 @@
 pub mod fault;
 pub mod guards;
 pub mod prover;
-pub mod same;
-#[cfg(test)]
-mod tests;

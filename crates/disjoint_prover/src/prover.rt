@@ -10,10 +10,10 @@ ghost use Rattle.row_normal.specs.View.{normal_tree};
 
 use crate::fault::{DisjointFault, Pieces};
 use crate::guards::{Guards, Sides, copied};
-use crate::same::equal;
 use con_terms::con::{Con, Pairs};
 use row_normal::form::Normal;
 use row_normal::normal::con_of;
+use row_normal::same::same_con;
 use std::alloc::Global;
 
 /// Whether two rows are apart, under these guards.
@@ -109,11 +109,7 @@ fn check_two(alloc: Global, g: &Guards, left: &Con, right: &Con) -> Result<(), D
 fn is_separated(g: &Guards, left: &Con, right: &Con) -> bool
     ensures { result ≡ separates (guard_list g.now) (con_tree left.now) (con_tree right.now) }
 {
-    if are_names(left, right) {
-        !equal(left, right)
-    } else {
-        are_guarded(g, left, right)
-    }
+    (are_names(left, right) && !same_con(left, right)) || are_guarded(g, left, right)
 }
 
 fn are_names(left: &Con, right: &Con) -> bool
@@ -156,10 +152,10 @@ fn has_piece(row: &Con, piece: &Con) -> bool
             if is_map(f) {
                 has_piece(r, piece)
             } else {
-                equal(row, piece)
+                same_con(row, piece)
             }
         }
-        _ => equal(row, piece),
+        _ => same_con(row, piece),
     }
 }
 
@@ -167,7 +163,7 @@ fn has_name(ps: &Pairs, piece: &Con) -> bool
     ensures { result ≡ among (con_tree piece.now) (names_of (pairs_tree ps.now)) }
 {
     for i in 0..ps.items.len() {
-        if equal(&ps.items[i].name, piece) {
+        if same_con(&ps.items[i].name, piece) {
             return true;
         }
     }

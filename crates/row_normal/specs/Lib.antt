@@ -1,7 +1,12 @@
 pub mod Steps
 pub mod Contracted
 pub mod Ordered
+pub mod Glue
 pub mod NormalForm
 pub mod Turns
 pub mod SameTree
 pub mod View
+pub mod Roots
+pub mod Sequences
+pub mod Outcomes
+pub mod Laws

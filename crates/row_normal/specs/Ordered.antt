@@ -1,6 +1,6 @@
 -- Rows with their pieces in order: literal names by their symbols' numbers, then variables, outer binders first,
 -- then other pieces by their trees.
-use Rattle.std.specs.Prelude.{ℕ, zero, suc, ◌+◌, ◌-◌, ◌^◌, Bool, true, false, List, [], ◌∷◌, ◌++◌, if◌then◌else◌}
+use Rattle.std.specs.Prelude.{ℕ, suc, ◌-◌, ◌^◌, Bool, true, false, List, [], ◌∷◌, ◌++◌, if◌then◌else◌}
 use Rattle.std.specs.Ordering.{is_lt, nat_cmp}
 use Rattle.std.specs.Cmp.Lexicographic.{slice_cmp}
 use Rattle.con_terms.specs.Trees.{Kd, types, units, names, row_of, to, tuple_of, Kds, no_kinds, kind, Cn, var, basic, arrow, poly, guarded, record_of, app, lambda, unit_con, name, row, cat, map_of, tuple, proj, Cns, no_cons, con, Prs, no_pairs, pair}
@@ -64,11 +64,15 @@ abbrev mutual
   pairs_count no_pairs = 0
   pairs_count (pair n v ps) = suc (pairs_count ps)
 
--- by what a piece is placed
+-- literal names by their symbols' numbers, then variables, outer binders first, then other pieces
+abbrev pub piece_rank : Cn → List ℕ
+piece_rank (row k (pair (name s) v no_pairs)) = 0 ∷ s ∷ []
+piece_rank (var i) = 1 ∷ (2 ^ 32 - i) ∷ []
+piece_rank c = 2 ∷ []
+
+-- by what a piece is placed: its rank, and then its tree
 abbrev pub piece_key : Cn → List ℕ
-piece_key (row k (pair (name s) v no_pairs)) = 0 ∷ s ∷ con_code (row k (pair (name s) v no_pairs))
-piece_key (var i) = 1 ∷ (2 ^ 32 - i) ∷ con_code (var i)
-piece_key c = 2 ∷ con_code c
+piece_key c = piece_rank c ++ con_code c
 
 -- whether p comes before q
 abbrev pub before : Cn → Cn → Bool

@@ -1,43 +1,67 @@
 //! Trees as numbers, by which they are compared.
 
+ghost use Rattle.std.specs.Prelude.{◌≡◌, ◌++◌, ◌∷◌, [], IfOk, OnOk};
+ghost use Rattle.con_terms.specs.View.{con_tree, cons_tree, kind_tree, kinds_tree, pair_tree, pairs_tree};
+ghost use Rattle.row_normal.specs.Glue.{literal_of, name_of};
+ghost use Rattle.row_normal.specs.Ordered.{con_code as tree_code, cons_code as trees_code, cons_count, kind_code as kind_numbers, kinds_code as kinds_numbers, kinds_count, pairs_code as fields_code, pairs_count, piece_key as place, piece_rank};
+
 use con_terms::con::{Con, Cons, Pair, Pairs};
 use con_terms::kind::{Kind, Kinds};
 use std::alloc::{AllocError, Global};
 
 /// By what a piece of a row is placed.
-pub fn piece_key(alloc: Global, c: &Con) -> Result<Vec<u64>, AllocError> {
+pub fn piece_key(alloc: Global, c: &Con) -> Result<Vec<u64>, AllocError>
+    ensures { IfOk result (λ key. key.items ≡ place (con_tree c.now)) }
+{
     let mut key = Vec::new(alloc);
-    match c {
-        Con::Row(_, fields) => match literal_name(fields) {
-            Some(symbol) => {
-                key.push(0)?;
-                key.push(symbol as u64)?;
-            }
-            None => key.push(2)?,
-        },
-        Con::Var(i) => {
-            key.push(1)?;
-            key.push((1 << 32) - *i as u64)?;
-        }
-        _ => key.push(2)?,
-    }
+    rank(c, &mut key)?;
     con_code(c, &mut key)?;
     Ok(key)
 }
 
+// Literal names by their symbols' numbers, then variables, outer binders first, then other pieces.
+fn rank(c: &Con, key: &mut Vec<u64>) -> Result<(), AllocError>
+    ensures { OnOk result (key.new.items ≡ key.old.items ++ piece_rank (con_tree c.now)) }
+{
+    match c {
+        Con::Row(_, fields) => match literal_name(fields) {
+            Some(symbol) => numbered(0, symbol as u64, key),
+            None => Ok(key.push(2)?),
+        },
+        Con::Var(i) => numbered(1, (1 << 32) - *i as u64, key),
+        _ => Ok(key.push(2)?),
+    }
+}
+
 /// The symbol of the name of a literal's only field, where that name is a literal.
-pub fn literal_name(fields: &Pairs) -> Option<u32> {
+pub fn literal_name(fields: &Pairs) -> Option<u32>
+    ensures { result ≡ literal_of (pairs_tree fields.now) }
+{
     if fields.items.len() != 1 {
         return None;
     }
-    match &fields.items[0].name {
+    field_symbol(&fields.items[0])
+}
+
+fn field_symbol(field: &Pair) -> Option<u32>
+    ensures { result ≡ name_of (pair_tree field.now).0 }
+{
+    symbol_of(&field.name)
+}
+
+fn symbol_of(c: &Con) -> Option<u32>
+    ensures { result ≡ name_of (con_tree c.now) }
+{
+    match c {
         Con::Name(s) => Some(s.number),
         _ => None,
     }
 }
 
 #[cycle(kind_code)]
-fn kind_code(k: &Kind, key: &mut Vec<u64>) -> Result<(), AllocError> {
+fn kind_code(k: &Kind, key: &mut Vec<u64>) -> Result<(), AllocError>
+    ensures { OnOk result (key.new.items ≡ key.old.items ++ kind_numbers (kind_tree k.now)) }
+{
     match k {
         Kind::Types => Ok(key.push(0)?),
         Kind::Units => Ok(key.push(1)?),
@@ -59,7 +83,9 @@ fn kind_code(k: &Kind, key: &mut Vec<u64>) -> Result<(), AllocError> {
 }
 
 #[cycle(kind_code)]
-fn kinds_code(ks: &Kinds, key: &mut Vec<u64>) -> Result<(), AllocError> {
+fn kinds_code(ks: &Kinds, key: &mut Vec<u64>) -> Result<(), AllocError>
+    ensures { OnOk result (key.new.items ≡ key.old.items ++ kinds_count (kinds_tree ks.now) ∷ kinds_numbers (kinds_tree ks.now)) }
+{
     key.push(ks.items.len() as u64)?;
     for i in 0..ks.items.len() {
         kind_code(&ks.items[i], key)?;
@@ -68,10 +94,12 @@ fn kinds_code(ks: &Kinds, key: &mut Vec<u64>) -> Result<(), AllocError> {
 }
 
 #[cycle(con_code)]
-fn con_code(c: &Con, key: &mut Vec<u64>) -> Result<(), AllocError> {
+fn con_code(c: &Con, key: &mut Vec<u64>) -> Result<(), AllocError>
+    ensures { OnOk result (key.new.items ≡ key.old.items ++ tree_code (con_tree c.now)) }
+{
     match c {
-        Con::Var(i) => numbered(0, *i, key),
-        Con::Basic(s) => numbered(1, s.number, key),
+        Con::Var(i) => numbered(0, *i as u64, key),
+        Con::Basic(s) => numbered(1, s.number as u64, key),
         Con::Arrow(a, b) => {
             key.push(2)?;
             con_code(a, key)?;
@@ -104,7 +132,7 @@ fn con_code(c: &Con, key: &mut Vec<u64>) -> Result<(), AllocError> {
             con_code(b, key)
         }
         Con::UnitCon => Ok(key.push(8)?),
-        Con::Name(s) => numbered(9, s.number, key),
+        Con::Name(s) => numbered(9, s.number as u64, key),
         Con::Row(k, ps) => {
             key.push(10)?;
             kind_code(k, key)?;
@@ -132,13 +160,17 @@ fn con_code(c: &Con, key: &mut Vec<u64>) -> Result<(), AllocError> {
     }
 }
 
-fn numbered(form: u64, number: u32, key: &mut Vec<u64>) -> Result<(), AllocError> {
+fn numbered(form: u64, number: u64, key: &mut Vec<u64>) -> Result<(), AllocError>
+    ensures { OnOk result (key.new.items ≡ key.old.items ++ form ∷ number ∷ []) }
+{
     key.push(form)?;
-    Ok(key.push(number as u64)?)
+    Ok(key.push(number)?)
 }
 
 #[cycle(con_code)]
-fn cons_code(cs: &Cons, key: &mut Vec<u64>) -> Result<(), AllocError> {
+fn cons_code(cs: &Cons, key: &mut Vec<u64>) -> Result<(), AllocError>
+    ensures { OnOk result (key.new.items ≡ key.old.items ++ cons_count (cons_tree cs.now) ∷ trees_code (cons_tree cs.now)) }
+{
     key.push(cs.items.len() as u64)?;
     for i in 0..cs.items.len() {
         con_code(&cs.items[i], key)?;
@@ -147,7 +179,9 @@ fn cons_code(cs: &Cons, key: &mut Vec<u64>) -> Result<(), AllocError> {
 }
 
 #[cycle(con_code)]
-fn pairs_code(ps: &Pairs, key: &mut Vec<u64>) -> Result<(), AllocError> {
+fn pairs_code(ps: &Pairs, key: &mut Vec<u64>) -> Result<(), AllocError>
+    ensures { OnOk result (key.new.items ≡ key.old.items ++ pairs_count (pairs_tree ps.now) ∷ fields_code (pairs_tree ps.now)) }
+{
     key.push(ps.items.len() as u64)?;
     for i in 0..ps.items.len() {
         pair_code(&ps.items[i], key)?;
@@ -156,7 +190,9 @@ fn pairs_code(ps: &Pairs, key: &mut Vec<u64>) -> Result<(), AllocError> {
 }
 
 #[cycle(con_code)]
-fn pair_code(p: &Pair, key: &mut Vec<u64>) -> Result<(), AllocError> {
+fn pair_code(p: &Pair, key: &mut Vec<u64>) -> Result<(), AllocError>
+    ensures { OnOk result (key.new.items ≡ key.old.items ++ tree_code (pair_tree p.now).0 ++ tree_code (pair_tree p.now).1) }
+{
     con_code(&p.name, key)?;
     con_code(&p.value, key)
 }

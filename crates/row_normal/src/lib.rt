@@ -6,10 +6,11 @@
 mod code;
 mod eta;
 pub mod form;
+mod glue;
+pub mod laws;
 pub mod normal;
 mod order;
+mod piece;
 mod reduce;
-mod same;
+pub mod same;
 mod steps;
-#[cfg(test)]
-mod tests;

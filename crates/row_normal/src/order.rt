@@ -1,20 +1,22 @@
 //! Rows with their pieces in order.
 
-use crate::code::{literal_name, piece_key};
-use con_terms::con::{Con, Cons, Pair, Pairs};
-use con_terms::kind::{Kind, copy_kind, same_kind};
-use std::alloc::{AllocError, Global};
+ghost use Rattle.std.specs.Prelude.{◌≡◌, ◌++◌, ◌∷◌, [], map, IfOk, OnOk};
+ghost use Rattle.con_terms.specs.Trees.{no_pairs, pair, row};
+ghost use Rattle.con_terms.specs.View.{con_tree, cons_tree, kind_tree, pair_tree, pairs_tree};
+ghost use Rattle.row_normal.specs.Glue.{piece_tree};
+ghost use Rattle.row_normal.specs.Ordered.{field_pieces as fields_apart, first_kind as leading_kind, ordered as in_its_order, ordered_all, ordered_pieces};
 
-// A piece of a row, with that by which it is placed.
-#[derive(Drop)]
-struct Piece {
-    key: Vec<u64>,
-    con: Con,
-}
+use crate::glue::in_order;
+use crate::piece::Piece;
+use con_terms::con::{Con, Cons, Pair, Pairs};
+use con_terms::kind::{Kind, copy_kind};
+use std::alloc::{AllocError, Global};
 
 /// The constructor with the pieces of each row in order.
 #[cycle(ordered)]
-pub fn ordered(alloc: Global, c: Con) -> Result<Con, AllocError> {
+pub fn ordered(alloc: Global, c: Con) -> Result<Con, AllocError>
+    ensures { IfOk result (λ d. con_tree d ≡ in_its_order (con_tree c)) }
+{
     match c {
         Con::Arrow(a, b) => Ok(Con::Arrow(ordered_box(alloc, a)?, ordered_box(alloc, b)?)),
         Con::Poly(implicit, k, b) => Ok(Con::Poly(implicit, k, ordered_box(alloc, b)?)),
@@ -46,12 +48,16 @@ pub fn ordered(alloc: Global, c: Con) -> Result<Con, AllocError> {
 }
 
 #[cycle(ordered)]
-fn ordered_box(alloc: Global, c: Box<Con>) -> Result<Box<Con>, AllocError> {
+fn ordered_box(alloc: Global, c: Box<Con>) -> Result<Box<Con>, AllocError>
+    ensures { IfOk result (λ d. con_tree d.value ≡ in_its_order (con_tree c.value)) }
+{
     Ok(Box::new(alloc, ordered(alloc, Box::into_inner(c))?)?)
 }
 
 #[cycle(ordered)]
-fn ordered_each(alloc: Global, cs: Cons) -> Result<Cons, AllocError> {
+fn ordered_each(alloc: Global, cs: Cons) -> Result<Cons, AllocError>
+    ensures { IfOk result (λ ds. cons_tree ds ≡ ordered_all (cons_tree cs)) }
+{
     let mut items = Vec::new(alloc);
     for c in cs.items {
         items.push(ordered(alloc, c)?)?;
@@ -61,7 +67,9 @@ fn ordered_each(alloc: Global, cs: Cons) -> Result<Cons, AllocError> {
 
 // Adds the pieces of a row, as written.
 #[cycle(ordered)]
-fn row_pieces(alloc: Global, c: Con, pieces: &mut Vec<Piece>) -> Result<(), AllocError> {
+fn row_pieces(alloc: Global, c: Con, pieces: &mut Vec<Piece>) -> Result<(), AllocError>
+    ensures { OnOk result (map piece_tree pieces.new.items ≡ map piece_tree pieces.old.items ++ ordered_pieces (con_tree c)) }
+{
     match c {
         Con::Row(k, fields) => field_pieces(alloc, fields, &k, pieces),
         Con::Cat(a, b) => {
@@ -82,7 +90,9 @@ fn field_pieces(
     fields: Pairs,
     k: &Kind,
     pieces: &mut Vec<Piece>,
-) -> Result<(), AllocError> {
+) -> Result<(), AllocError>
+    ensures { OnOk result (map piece_tree pieces.new.items ≡ map piece_tree pieces.old.items ++ fields_apart (kind_tree k.now) (pairs_tree fields)) }
+{
     for field in fields.items {
         let Pair { name, value } = field;
         let name = ordered(alloc, name)?;
@@ -93,84 +103,28 @@ fn field_pieces(
     Ok(())
 }
 
-fn single(alloc: Global, k: &Kind, field: Pair) -> Result<Con, AllocError> {
+fn single(alloc: Global, k: &Kind, field: Pair) -> Result<Con, AllocError>
+    ensures { IfOk result (λ c. con_tree c ≡ row (kind_tree k.now) (pair (pair_tree field).0 (pair_tree field).1 no_pairs)) }
+{
     let mut items = Vec::new(alloc);
     items.push(field)?;
     let kind = Box::new(alloc, copy_kind(alloc, k)?)?;
     Ok(Con::Row(kind, Pairs { items }))
 }
 
-fn add_piece(alloc: Global, con: Con, pieces: &mut Vec<Piece>) -> Result<(), AllocError> {
-    let key = piece_key(alloc, &con)?;
-    Ok(pieces.push(Piece { key, con })?)
+fn add_piece(alloc: Global, con: Con, pieces: &mut Vec<Piece>) -> Result<(), AllocError>
+    ensures { OnOk result (map piece_tree pieces.new.items ≡ map piece_tree pieces.old.items ++ con_tree con ∷ []) }
+{
+    Ok(pieces.push(Piece::new(alloc, con)?)?)
 }
 
 // The kind of the first piece, where that is a literal.
-fn first_kind(alloc: Global, c: &Con) -> Result<Kind, AllocError> {
+fn first_kind(alloc: Global, c: &Con) -> Result<Kind, AllocError>
+    ensures { IfOk result (λ k. kind_tree k ≡ leading_kind (con_tree c.now)) }
+{
     match c {
         Con::Row(k, _) => copy_kind(alloc, k),
         Con::Cat(a, _) => first_kind(alloc, a),
         _ => Ok(Kind::Types),
-    }
-}
-
-// The pieces in order, joined by `++`, or the empty literal.
-fn in_order(alloc: Global, kind: Kind, pieces: Vec<Piece>) -> Result<Con, AllocError> {
-    let mut pieces = pieces;
-    pieces.sort_by(|a, b| a.key.as_slice().cmp(b.key.as_slice()))?;
-    let mut rest = joined_literals(alloc, pieces)?;
-    let mut whole = match rest.pop() {
-        Some(last) => last,
-        None => {
-            let items = Vec::new(alloc);
-            return Ok(Con::Row(Box::new(alloc, kind)?, Pairs { items }));
-        }
-    };
-    'joins: while let Some(piece) = rest.pop() {
-        whole = Con::Cat(Box::new(alloc, piece)?, Box::new(alloc, whole)?);
-    }
-    Ok(whole)
-}
-
-// The pieces, of which leading fields with literal names and one kind are one literal.
-fn joined_literals(alloc: Global, pieces: Vec<Piece>) -> Result<Vec<Con>, AllocError> {
-    let mut joined: Vec<Con> = Vec::new(alloc);
-    for piece in pieces {
-        let Piece { key: _, con } = piece;
-        if let Some(con) = join_field(&mut joined, con)? {
-            joined.push(con)?;
-        }
-    }
-    Ok(joined)
-}
-
-// Adds a field with a literal name to the only piece before it, where that has fields with literal names and the same kind;
-// gives the piece back where this is not so.
-fn join_field(joined: &mut Vec<Con>, con: Con) -> Result<Option<Con>, AllocError> {
-    if joined.len() != 1 {
-        return Ok(Some(con));
-    }
-    match con {
-        Con::Row(l, fields) => match &mut joined[0] {
-            Con::Row(k, first) => {
-                if literal_name(&fields).is_some() && first_is_literal(first) && same_kind(k, &l) {
-                    for field in fields.items {
-                        first.items.push(field)?;
-                    }
-                    Ok(None)
-                } else {
-                    Ok(Some(Con::Row(l, fields)))
-                }
-            }
-            _ => Ok(Some(Con::Row(l, fields))),
-        },
-        other => Ok(Some(other)),
-    }
-}
-
-fn first_is_literal(fields: &Pairs) -> bool {
-    match fields.items.first() {
-        Some(field) => matches!(field.name, Con::Name(_)),
-        None => false,
     }
 }

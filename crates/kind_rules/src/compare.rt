@@ -1,0 +1,136 @@
+//! Whether two rows are apart, by their normal forms.
+
+ghost use Rattle.std.specs.Prelude.{◌≡◌, ◌<◌, ◌+◌, drop, map, IfOk, OnOk};
+ghost use Rattle.con_terms.specs.Trees.{names_of};
+ghost use Rattle.con_terms.specs.View.{con_tree, pair_tree, pairs_from, pairs_tree};
+ghost use Rattle.con_terms.specs.declared.con.Pairs.{out-Pairs};
+ghost use Rattle.disjoint_prover.specs.View.{guard_list};
+ghost use Rattle.kind_rules.specs.Compared.{comparison_units, not_apart, not_apart_from, not_pairwise_apart, normal_forms, touch_flaw};
+ghost use Rattle.disjoint_prover.specs.Separation.{first_touch};
+ghost use Rattle.kind_rules.specs.View.{found, maybe_flaw, maybe_form, sides_tree};
+ghost use Rattle.row_normal.specs.NormalForm.{nf};
+ghost use Rattle.row_normal.specs.View.{normal_tree};
+
+use crate::flaw::Flaw;
+use con_terms::con::{Con, Pairs};
+use con_terms::kind::Kind;
+use disjoint_prover::fault::DisjointFault;
+use disjoint_prover::guards::Guards;
+use disjoint_prover::prover::disjoint;
+use row_normal::form::Normal;
+use row_normal::normal::{Fuel, NormalFault, normal};
+use std::alloc::{AllocError, Global};
+
+/// How many units both sides of one comparison have together.
+const UNITS: u32 = 100_000;
+
+/// Both sides of a comparison, in normal form.
+#[derive(Drop)]
+pub struct Sides {
+    pub left: Normal,
+    pub right: Normal,
+}
+
+fn comparison_fuel() -> Fuel
+    ensures units { result.left ≡ comparison_units }
+    ensures some { 0 < result.left }
+{
+    Fuel { left: UNITS }
+}
+
+// The normal form within the units that are left; none where it is too large.
+fn normal_form(
+    alloc: Global,
+    c: &Con,
+    kind: &Kind,
+    fuel: &mut Fuel,
+) -> Result<Option<Normal>, AllocError>
+    requires { 0 < fuel.old.left }
+    ensures form { IfOk result (λ n. maybe_form n fuel.new.left ≡ nf fuel.old.left (con_tree c.now)) }
+    ensures some { OnOk result (0 < fuel.new.left) }
+{
+    match normal(alloc, c, kind, fuel) {
+        Ok(n) => Ok(Some(n)),
+        Err(NormalFault::TooLarge) => Ok(None),
+        Err(NormalFault::Memory) => Err(AllocError),
+    }
+}
+
+/// The normal forms of two rows, the left one first, within the units of one comparison.
+pub fn normal_sides(
+    alloc: Global,
+    left: &Con,
+    left_kind: &Kind,
+    right: &Con,
+    right_kind: &Kind,
+) -> Result<Result<Sides, Flaw>, AllocError>
+    ensures { IfOk result (λ r. found sides_tree r ≡ normal_forms comparison_units (con_tree left.now) (con_tree right.now)) }
+{
+    let mut fuel = comparison_fuel();
+    match normal_form(alloc, left, left_kind, &mut fuel)? {
+        None => Ok(Err(Flaw::TooLarge)),
+        Some(left) => match normal_form(alloc, right, right_kind, &mut fuel)? {
+            None => Ok(Err(Flaw::TooLarge)),
+            Some(right) => Ok(Ok(Sides { left, right })),
+        },
+    }
+}
+
+// What keeps two normal forms from being apart.
+fn touch_in(alloc: Global, g: &Guards, sides: &Sides) -> Result<Option<Flaw>, AllocError>
+    ensures { IfOk result (λ o. maybe_flaw o ≡ touch_flaw (first_touch (guard_list g.now) (normal_tree sides.now.left) (normal_tree sides.now.right))) }
+{
+    match disjoint(alloc, g, &sides.left, &sides.right) {
+        Ok(()) => Ok(None),
+        Err(DisjointFault::Touch(pieces)) => Ok(Some(Flaw::Touch(Box::new(alloc, pieces)?))),
+        Err(DisjointFault::Memory) => Err(AllocError),
+    }
+}
+
+/// What keeps two rows of one kind, or two names, from being apart.
+pub fn flaw_between(
+    alloc: Global,
+    g: &Guards,
+    left: &Con,
+    right: &Con,
+    kind: &Kind,
+) -> Result<Option<Flaw>, AllocError>
+    ensures { IfOk result (λ o. maybe_flaw o ≡ not_apart (guard_list g.now) (con_tree left.now) (con_tree right.now)) }
+{
+    match normal_sides(alloc, left, kind, right, kind)? {
+        Err(flaw) => Ok(Some(flaw)),
+        Ok(sides) => touch_in(alloc, g, &sides),
+    }
+}
+
+// What keeps a name from being apart from those of the fields from `first` on.
+fn flaw_after(
+    alloc: Global,
+    g: &Guards,
+    name: &Con,
+    ps: &Pairs,
+    first: usize,
+) -> Result<Option<Flaw>, AllocError>
+    ensures { IfOk result (λ o. maybe_flaw o ≡ not_apart_from (guard_list g.now) (con_tree name.now) (names_of (pairs_from (map pair_tree (drop first (out-Pairs ps.now).items.items))))) }
+{
+    for i in first..ps.items.len() {
+        match flaw_between(alloc, g, name, &ps.items[i].name, &Kind::Names)? {
+            Some(flaw) => return Ok(Some(flaw)),
+            None => {}
+        }
+    }
+    Ok(None)
+}
+
+/// What keeps the names of a row literal from being apart from each other.
+pub fn flaw_among(alloc: Global, g: &Guards, ps: &Pairs) -> Result<Option<Flaw>, AllocError>
+    ensures { IfOk result (λ o. maybe_flaw o ≡ not_pairwise_apart (guard_list g.now) (names_of (pairs_tree ps.now))) }
+{
+    for i in 0..ps.items.len() {
+        match flaw_after(alloc, g, &ps.items[i].name, ps, i + 1)? {
+            Some(flaw) => return Ok(Some(flaw)),
+            None => {}
+        }
+    }
+    Ok(None)
+}

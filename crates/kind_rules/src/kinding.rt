@@ -1,0 +1,255 @@
+//! Kinds of constructors.
+
+ghost use Rattle.std.specs.Prelude.{◌≡◌, IfErr, IfOk};
+ghost use Rattle.con_terms.specs.Kinded.{Kinded, assume as assumed, bind as bound};
+ghost use Rattle.con_terms.specs.Trees.{Kd, app, arrow, cat, guarded, lambda, row};
+ghost use Rattle.con_terms.specs.View.{con_tree, cons_tree, kind_tree, pairs_tree};
+ghost use Rattle.kind_rules.specs.Faults.{Gives, KeepsTwoKinds, TellsComparison};
+ghost use Rattle.kind_rules.specs.Kinding.{judged, judged_at, kinding, kinding_all, kinding_fields};
+ghost use Rattle.kind_rules.specs.Rules.{both as found_both, proj_kind, record_kind, tuple_kind, type_kind};
+ghost use Rattle.kind_rules.specs.View.{found, kind_trees, pair_trees, scope_view, sides_tree, two_trees};
+
+use crate::compare::Sides;
+use crate::fault::{KindFault, fault_at};
+use crate::flaw::{Flaw, Two, both, expects};
+use crate::rules::{
+    of_app, of_arrow, of_body, of_cat, of_guard, of_lambda, of_map, of_proj, of_record, of_row,
+    of_tuple,
+};
+use crate::scope::{Scope, kind_of_basic, kind_of_variable};
+use con_terms::con::{Con, Cons, Pairs};
+use con_terms::kind::Kind;
+use con_terms::place::Place;
+use con_terms::size::fits;
+use row_normal::normal::DEPTH;
+use std::alloc::{AllocError, Global};
+
+/// The kind of a constructor that stands at a place, or why it has none.
+///
+/// All that is told stands at this place. A flaw of a part comes before one of the whole, and that of an earlier part
+/// before that of a later one. A constructor that is deeper than 2,000 is TooLarge before all else; so is one of which a
+/// comparison takes 100,000 units or more, both sides together.
+pub fn kind_of(alloc: Global, s: &Scope, c: &Con, at: Place) -> Result<Kind, KindFault>
+    ensures kinded { IfOk result (λ k. Kinded (scope_view s.now) (con_tree c.now) (kind_tree k)) }
+    ensures exact { Gives at result (judged (scope_view s.now) (con_tree c.now)) }
+    ensures two_kinds { IfErr result KeepsTwoKinds }
+    ensures unbound_or_mismatch_only_where_unkinded { (k : Kd) → Kinded (scope_view s.now) (con_tree c.now) k → IfErr result TellsComparison }
+{
+    match judge(alloc, s, c)? {
+        Ok(kind) => Ok(kind),
+        Err(flaw) => Err(fault_at(flaw, at)),
+    }
+}
+
+/// The kind of a constructor, which is to be this one, or what is wrong with it, wherever it stands. That another kind
+/// is found comes after each flaw of the constructor.
+pub fn judge_at(
+    alloc: Global,
+    s: &Scope,
+    c: &Con,
+    wanted: &Kind,
+) -> Result<Result<Kind, Flaw>, AllocError>
+    ensures { IfOk result (λ r. found kind_tree r ≡ judged_at (scope_view s.now) (con_tree c.now) (kind_tree wanted.now)) }
+{
+    match judge(alloc, s, c)? {
+        Err(flaw) => Ok(Err(flaw)),
+        Ok(kind) => expects(alloc, wanted, kind),
+    }
+}
+
+/// The kind of a constructor, or what is wrong with it, wherever it stands.
+pub fn judge(alloc: Global, s: &Scope, c: &Con) -> Result<Result<Kind, Flaw>, AllocError>
+    ensures { IfOk result (λ r. found kind_tree r ≡ judged (scope_view s.now) (con_tree c.now)) }
+{
+    if fits(c, DEPTH) {
+        find(alloc, s, c)
+    } else {
+        Ok(Err(Flaw::TooLarge))
+    }
+}
+
+// Each form has a function of its own, so that little of the stack is taken for each level.
+#[cycle(find)]
+fn find(alloc: Global, s: &Scope, c: &Con) -> Result<Result<Kind, Flaw>, AllocError>
+    ensures { IfOk result (λ r. found kind_tree r ≡ kinding (scope_view s.now) (con_tree c.now)) }
+{
+    match c {
+        Con::Var(number) => kind_of_variable(alloc, s, *number),
+        Con::Basic(name) => kind_of_basic(alloc, s, *name),
+        Con::Arrow(a, b) => find_arrow(alloc, s, a, b),
+        Con::Poly(_, k, b) => find_poly(alloc, s, k, b),
+        Con::Guarded(a, b, body) => find_guarded(alloc, s, a, b, body),
+        Con::Record(a) => find_record(alloc, s, a),
+        Con::App(f, a) => find_app(alloc, s, f, a),
+        Con::Lambda(k, b) => find_lambda(alloc, s, k, b),
+        Con::UnitCon => Ok(Ok(Kind::Units)),
+        Con::Name(_) => Ok(Ok(Kind::Names)),
+        Con::Row(k, ps) => find_row(alloc, s, k, ps),
+        Con::Cat(a, b) => find_cat(alloc, s, a, b),
+        Con::Map(k, l) => of_map(alloc, k, l),
+        Con::Tuple(cs) => find_tuple(alloc, s, cs),
+        Con::Proj(a, number) => find_proj(alloc, s, a, *number),
+    }
+}
+
+#[cycle(find)]
+fn find_both(alloc: Global, s: &Scope, a: &Con, b: &Con) -> Result<Result<Two, Flaw>, AllocError>
+    ensures { IfOk result (λ r. found two_trees r ≡ found_both (kinding (scope_view s.now) (con_tree a.now)) (kinding (scope_view s.now) (con_tree b.now))) }
+{
+    let first = find(alloc, s, a)?;
+    let second = find(alloc, s, b)?;
+    Ok(both(first, second))
+}
+
+#[cycle(find)]
+fn find_under(alloc: Global, s: &Scope, k: &Kind, b: &Con) -> Result<Result<Kind, Flaw>, AllocError>
+    ensures { IfOk result (λ r. found kind_tree r ≡ kinding (bound (kind_tree k.now) (scope_view s.now)) (con_tree b.now)) }
+{
+    let inner = s.bind(k)?;
+    find(alloc, &inner, b)
+}
+
+#[cycle(find)]
+fn find_arrow(alloc: Global, s: &Scope, a: &Con, b: &Con) -> Result<Result<Kind, Flaw>, AllocError>
+    ensures { IfOk result (λ r. found kind_tree r ≡ kinding (scope_view s.now) (arrow (con_tree a.now) (con_tree b.now))) }
+{
+    let sides = find_both(alloc, s, a, b)?;
+    of_arrow(alloc, sides)
+}
+
+#[cycle(find)]
+fn find_poly(alloc: Global, s: &Scope, k: &Kind, b: &Con) -> Result<Result<Kind, Flaw>, AllocError>
+    ensures { IfOk result (λ r. found kind_tree r ≡ type_kind (kinding (bound (kind_tree k.now) (scope_view s.now)) (con_tree b.now))) }
+{
+    let body = find_under(alloc, s, k, b)?;
+    of_body(alloc, body)
+}
+
+#[cycle(find)]
+fn find_guarded(
+    alloc: Global,
+    s: &Scope,
+    a: &Con,
+    b: &Con,
+    body: &Con,
+) -> Result<Result<Kind, Flaw>, AllocError>
+    ensures { IfOk result (λ r. found kind_tree r ≡ kinding (scope_view s.now) (guarded (con_tree a.now) (con_tree b.now) (con_tree body.now))) }
+{
+    let sides = find_both(alloc, s, a, b)?;
+    match of_guard(alloc, a, b, sides)? {
+        Err(flaw) => Ok(Err(flaw)),
+        Ok(guard) => find_assuming(alloc, s, &guard, body),
+    }
+}
+
+#[cycle(find)]
+fn find_assuming(
+    alloc: Global,
+    s: &Scope,
+    guard: &Sides,
+    body: &Con,
+) -> Result<Result<Kind, Flaw>, AllocError>
+    ensures { IfOk result (λ r. found kind_tree r ≡ type_kind (kinding (assumed (sides_tree guard.now).0 (sides_tree guard.now).1 (scope_view s.now)) (con_tree body.now))) }
+{
+    let inner = s.assume(&guard.left, &guard.right)?;
+    let body = find(alloc, &inner, body)?;
+    of_body(alloc, body)
+}
+
+#[cycle(find)]
+fn find_record(alloc: Global, s: &Scope, a: &Con) -> Result<Result<Kind, Flaw>, AllocError>
+    ensures { IfOk result (λ r. found kind_tree r ≡ record_kind (kinding (scope_view s.now) (con_tree a.now))) }
+{
+    let row = find(alloc, s, a)?;
+    of_record(alloc, row)
+}
+
+#[cycle(find)]
+fn find_app(alloc: Global, s: &Scope, f: &Con, a: &Con) -> Result<Result<Kind, Flaw>, AllocError>
+    ensures { IfOk result (λ r. found kind_tree r ≡ kinding (scope_view s.now) (app (con_tree f.now) (con_tree a.now))) }
+{
+    let parts = find_both(alloc, s, f, a)?;
+    of_app(alloc, parts)
+}
+
+#[cycle(find)]
+fn find_lambda(
+    alloc: Global,
+    s: &Scope,
+    k: &Kind,
+    b: &Con,
+) -> Result<Result<Kind, Flaw>, AllocError>
+    ensures { IfOk result (λ r. found kind_tree r ≡ kinding (scope_view s.now) (lambda (kind_tree k.now) (con_tree b.now))) }
+{
+    let body = find_under(alloc, s, k, b)?;
+    of_lambda(alloc, k, body)
+}
+
+#[cycle(find)]
+fn find_row(
+    alloc: Global,
+    s: &Scope,
+    k: &Kind,
+    ps: &Pairs,
+) -> Result<Result<Kind, Flaw>, AllocError>
+    ensures { IfOk result (λ r. found kind_tree r ≡ kinding (scope_view s.now) (row (kind_tree k.now) (pairs_tree ps.now))) }
+{
+    let fields = find_fields(alloc, s, ps)?;
+    of_row(alloc, &s.guards, k, ps, fields)
+}
+
+#[cycle(find)]
+fn find_cat(alloc: Global, s: &Scope, a: &Con, b: &Con) -> Result<Result<Kind, Flaw>, AllocError>
+    ensures { IfOk result (λ r. found kind_tree r ≡ kinding (scope_view s.now) (cat (con_tree a.now) (con_tree b.now))) }
+{
+    let sides = find_both(alloc, s, a, b)?;
+    of_cat(alloc, &s.guards, a, b, sides)
+}
+
+#[cycle(find)]
+fn find_tuple(alloc: Global, s: &Scope, cs: &Cons) -> Result<Result<Kind, Flaw>, AllocError>
+    ensures { IfOk result (λ r. found kind_tree r ≡ tuple_kind (kinding_all (scope_view s.now) (cons_tree cs.now))) }
+{
+    Ok(of_tuple(find_all(alloc, s, cs)?))
+}
+
+#[cycle(find)]
+fn find_proj(
+    alloc: Global,
+    s: &Scope,
+    a: &Con,
+    number: u32,
+) -> Result<Result<Kind, Flaw>, AllocError>
+    ensures { IfOk result (λ r. found kind_tree r ≡ proj_kind number (kinding (scope_view s.now) (con_tree a.now))) }
+{
+    let tuple = find(alloc, s, a)?;
+    of_proj(alloc, tuple, number)
+}
+
+#[cycle(find)]
+fn find_all(alloc: Global, s: &Scope, cs: &Cons) -> Result<Result<Vec<Kind>, Flaw>, AllocError>
+    ensures { IfOk result (λ r. found kind_trees r ≡ kinding_all (scope_view s.now) (cons_tree cs.now)) }
+{
+    let mut kinds = Vec::new(alloc);
+    for i in 0..cs.items.len() {
+        match find(alloc, s, &cs.items[i])? {
+            Ok(kind) => kinds.push(kind)?,
+            Err(flaw) => return Ok(Err(flaw)),
+        }
+    }
+    Ok(Ok(kinds))
+}
+
+#[cycle(find)]
+fn find_fields(alloc: Global, s: &Scope, ps: &Pairs) -> Result<Result<Vec<Two>, Flaw>, AllocError>
+    ensures { IfOk result (λ r. found pair_trees r ≡ kinding_fields (scope_view s.now) (pairs_tree ps.now)) }
+{
+    let mut fields = Vec::new(alloc);
+    for i in 0..ps.items.len() {
+        match find_both(alloc, s, &ps.items[i].name, &ps.items[i].value)? {
+            Ok(field) => fields.push(field)?,
+            Err(flaw) => return Ok(Err(flaw)),
+        }
+    }
+    Ok(Ok(fields))
+}

@@ -1,0 +1,12 @@
+//! Kinds of constructors: which kind a constructor has in a scope, or what is wrong with it.
+//!
+//! What it means to have a kind stands in `con_terms`; how kinds are found stands in `specs/`, rule by rule.
+#![tactic(auto)]
+
+mod compare;
+pub mod fault;
+pub mod flaw;
+pub mod kinding;
+pub mod laws;
+mod rules;
+pub mod scope;

@@ -1,0 +1,19 @@
+//! Normal forms of large rows and of deep constructors. Without arguments it makes a small run, whose answers it prints;
+//! with `full` it measures.
+#![tactic(auto)]
+
+mod deep;
+mod measure;
+
+use anyhow::bail;
+use std::env;
+
+fn main(rt: HostRuntime) -> anyhow::Result<()> {
+    let mut words = env::args(&rt)?;
+    let _ = words.next();
+    match words.next() {
+        None => deep::tiny(&rt, rt.alloc()),
+        Some(word) if word.as_str() == "full" => measure::full(&rt, rt.alloc()),
+        Some(_) => bail!("the only argument is `full`"),
+    }
+}
