@@ -26,7 +26,7 @@ fun showEntry{n} (id : int) : transaction page =
     </xml>
 
 val count{n} : int =
-    if 3 * {n} <= 4711 && not ({n} = 12) then fold [fn _ => int] (fn [nm :: Name] [t :: Type] [r] acc => 1 + acc) 0 else 42
+    if 3 * {n} <= 4711 && not ({n} = 12) then fold [fn t => int] (fn [nm :: Name] [t :: Type] [r] acc => 1 + acc) 0 else 42
 
 '''
 

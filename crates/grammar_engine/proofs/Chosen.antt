@@ -10,7 +10,7 @@ use Rattle.surface_grammar.specs.Sides.{bars_of}
 use Rattle.surface_grammar.specs.Trees.{IsIn, among}
 use Rattle.grammar_engine.specs.Moves.{Chosen}
 
-is_in_at : (qs : List Rule) (i : ℕ) (d : Rule) → i < length qs → IsIn (get_or qs i d) qs
+pub is_in_at : (qs : List Rule) (i : ℕ) (d : Rule) → i < length qs → IsIn (get_or qs i d) qs
 is_in_at [] i d h = absurd (omega arith)
 is_in_at (q ∷ qs) zero d h = inl refl
 is_in_at (q ∷ qs) (suc i) d h = inr (is_in_at qs i d (omega arith))

@@ -14,10 +14,10 @@ use Rattle.surface_grammar.specs.Words.{kind_code}
 use Rattle.grammar_engine.specs.Laws.{is_raced_form, starts_none, starts_single, one_token_decides, solid, all_solid, every_kind}
 use Rattle.grammar_engine.proofs.Ranks.{and_left, and_right}
 
-abbrev kinds : List Kind
+abbrev pub kinds : List Kind
 kinds = k.KeywordAnd ∷ k.KeywordCase ∷ k.KeywordCon ∷ k.KeywordCookie ∷ k.KeywordDatatype ∷ k.KeywordElse ∷ k.KeywordEnd ∷ k.KeywordFn ∷ k.KeywordFun ∷ k.KeywordFunctor ∷ k.KeywordIf ∷ k.KeywordIn ∷ k.KeywordLet ∷ k.KeywordOf ∷ k.KeywordOpen ∷ k.KeywordRec ∷ k.KeywordSequence ∷ k.KeywordSig ∷ k.KeywordSignature ∷ k.KeywordStruct ∷ k.KeywordStructure ∷ k.KeywordTable ∷ k.KeywordThen ∷ k.KeywordType ∷ k.KeywordVal ∷ k.KeywordWhere ∷ k.SqlAnd ∷ k.SqlAs ∷ k.SqlAsc ∷ k.SqlBy ∷ k.SqlConstraint ∷ k.SqlDelete ∷ k.SqlDesc ∷ k.SqlFalse ∷ k.SqlFrom ∷ k.SqlInsert ∷ k.SqlInto ∷ k.SqlIs ∷ k.SqlJoin ∷ k.SqlKey ∷ k.SqlLeft ∷ k.SqlLimit ∷ k.SqlNot ∷ k.SqlNull ∷ k.SqlOffset ∷ k.SqlOn ∷ k.SqlOr ∷ k.SqlOrder ∷ k.SqlPrimary ∷ k.SqlSelect ∷ k.SqlSet ∷ k.SqlTrue ∷ k.SqlUnique ∷ k.SqlUpdate ∷ k.SqlValues ∷ k.SqlWhere ∷ k.TypeWord ∷ k.UnitWord ∷ k.NameWord ∷ k.Exclamation ∷ k.Hash ∷ k.Dollar ∷ k.Percent ∷ k.DoubleAmpersand ∷ k.LeftParenthesis ∷ k.RightParenthesis ∷ k.Star ∷ k.Plus ∷ k.DoublePlus ∷ k.Comma ∷ k.Dash ∷ k.DoubleDash ∷ k.TripleDash ∷ k.Arrow ∷ k.Dot ∷ k.Ellipsis ∷ k.Slash ∷ k.Colon ∷ k.DoubleColon ∷ k.TripleColon ∷ k.Semicolon ∷ k.LessThan ∷ k.LeftArrow ∷ k.LessOrEqual ∷ k.NotEqual ∷ k.XmlEmpty ∷ k.XmlOpen ∷ k.EqualSign ∷ k.DoubleArrow ∷ k.GreaterThan ∷ k.GreaterOrEqual ∷ k.AtSign ∷ k.DoubleAtSign ∷ k.LeftBracket ∷ k.RightBracket ∷ k.Caret ∷ k.LeftBrace ∷ k.Bar ∷ k.DoubleBar ∷ k.RightBrace ∷ k.Tilde ∷ k.Underscore ∷ k.LowerName ∷ k.UpperName ∷ k.Integer ∷ k.StringLiteral ∷ k.TextRun ∷ k.TagOpen ∷ k.TagClose ∷ k.XmlClose ∷ k.AttributeName ∷ k.TagSelfClose ∷ []
 
-found : (x : Kind) → get_or kinds (kind_code x) k.KeywordAnd ≡ x
+pub found : (x : Kind) → get_or kinds (kind_code x) k.KeywordAnd ≡ x
 found k.KeywordAnd = refl
 found k.KeywordCase = refl
 found k.KeywordCon = refl

@@ -1,4 +1,5 @@
 pub mod Chosen
+pub mod NoneBegins
 pub mod Grown
 pub mod Grows
 pub mod Ranks
@@ -6,3 +7,21 @@ pub mod Smaller
 pub mod Decided
 pub mod Leading
 pub mod Unique
+pub mod Shortest
+pub mod Calm
+pub mod Sound
+pub mod Filling
+pub mod Levels
+pub mod Allowing
+pub mod Readies
+pub mod Low
+pub mod Whole
+pub mod Pieces
+pub mod Scan
+pub mod Scanned
+pub mod Skimmed
+pub mod ConFronts
+pub mod Context
+pub mod ListFronts
+pub mod TextParts
+pub mod Sole

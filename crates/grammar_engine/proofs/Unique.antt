@@ -51,7 +51,7 @@ not_both false b' a c d e e' h = cc
 not_both true false a c d e e' h = cc
 
 -- where a form has to go on or ends all the same, the place is open
-is_left_open : (b o : Bool) → (b && not o) ≡ false → b ≡ true → o ≡ true
+pub is_left_open : (b o : Bool) → (b && not o) ≡ false → b ≡ true → o ≡ true
 is_left_open true true h e = refl
 is_left_open true false h e = cc
 is_left_open false o h e = cc
@@ -64,7 +64,7 @@ end_or_item g x y a c d ended begun same h =
     not_both (is_open g x) (is_open g y) a c d open_x (ap (is_open g) (sym same) ∙ open_x) h
 
 -- the first token of a tree, as the kind of the first of all tokens
-begun_kind : (g : Form) (ts after : List Token) → Led (λ k. begins g (Some k)) ts → begins g (first_kind (ts ++ after)) ≡ true
+pub begun_kind : (g : Form) (ts after : List Token) → Led (λ k. begins g (Some k)) ts → begins g (first_kind (ts ++ after)) ≡ true
 begun_kind g ts after l = subst (λ z. begins g (first_kind (z ++ after)) ≡ true) (sym l.is) l.passes
 
 -- the rules of the raced forms are raced
@@ -77,10 +77,10 @@ raced_rules f.SqlBraceRest q h (inr (inl e)) = ap is_raced e
 raced_rules f.SqlBraceRest q h (inr (inr e)) = absurd e
 raced_rules g q h i = cc
 
-first_same : (t u : Token) (a b : List Token) (ts us after behind : List Token) → ts ≡ t ∷ a → us ≡ u ∷ b → ts ++ after ≡ us ++ behind → t ≡ u
+pub first_same : (t u : Token) (a b : List Token) (ts us after behind : List Token) → ts ≡ t ∷ a → us ≡ u ∷ b → ts ++ after ≡ us ++ behind → t ≡ u
 first_same t u a b ts us after behind e e' h = let same : t ∷ (a ++ after) ≡ u ∷ (b ++ behind) = ap (λ z. z ++ after) (sym e) ∙ h ∙ ap (λ z. z ++ behind) e' in cc
 
-by_race : (b : Bool) → (b ≡ true) ⊎ (b ≡ false)
+pub by_race : (b : Bool) → (b ≡ true) ⊎ (b ≡ false)
 by_race true = inl refl
 by_race false = inr refl
 

@@ -1,5 +1,13 @@
 pub mod Places
+pub mod Rooms
+pub mod Solid
+pub mod Blocks
+pub mod Allowed
 pub mod Moves
 pub mod Reads
+pub mod Faults
+pub mod Growing
+pub mod Stuck
 pub mod Laws
 pub mod Choices
+pub mod Single

@@ -1,5 +1,5 @@
 -- What one step of reading does.
-use Rattle.std.specs.Prelude.{◌≡◌, ℕ, Bool, true, false, List, [], ◌∷◌, ◌++◌, Option, drop}
+use Rattle.std.specs.Prelude.{◌≡◌, ◌≤◌, ◌+◌, ℕ, Bool, true, false, List, [], ◌∷◌, ◌++◌, Option, drop}
 use Rattle.surface_tree.specs.declared.kind.Kind.{Kind}
 use Rattle.surface_tree.specs.declared.token.Token.{Token}
 use Rattle.surface_grammar.specs.declared.form.Form.{Form}
@@ -16,6 +16,7 @@ use Rattle.surface_grammar.specs.Words.{accept}
 use Rattle.grammar_engine.specs.declared.want.Want.{Want}
 use Rattle.grammar_engine.specs.declared.machine.Machine.{Machine}
 use Rattle.grammar_engine.specs.Places.{name_at}
+use Rattle.grammar_engine.specs.Rooms.{least_of}
 
 -- the parts as what is to be read
 abbrev pub wants_of : ℕ → ℕ → List Part → List Want
@@ -29,6 +30,7 @@ Chosen g x q = IsIn q (rules_of g) × (among (bars_of q) x ≡ false)
 -- the next token is taken for the word
 pub record Takes (items : List Token) (word : Kind) (tag : ℕ) (a b : Machine) : Type 0 where
   pub token : Token
+  pub step : b.at ≡ a.at + 1
   pub next : drop a.at items ≡ token ∷ drop b.at items
   pub accepted : accept word token.kind ≡ true
   pub named : is_tag word ≡ true → token.content ≡ name_at items tag
@@ -42,6 +44,7 @@ pub record Expands (items : List Token) (g : Form) (room tag : ℕ) (a b : Machi
   pub inner : ℕ
   pub own : ℕ
   pub built : Built room inner (name_at items tag) (name_at items own) rule g (first_kind (drop a.at items))
+  pub roomy : least_of rule ≤ room
   pub at : b.at ≡ a.at
   pub wants : b.wants ≡ wants_of inner own (body_of rule) ++ a.wants
   pub leaves : b.tree.leaves ≡ a.tree.leaves
@@ -79,3 +82,4 @@ pub record Begun (p : Part) (at room : ℕ) (a : Machine) : Type 0 where
   pub wants : a.wants ≡ record { part = p; room = room; tag = at } ∷ []
   pub leaves : a.tree.leaves ≡ []
   pub marks : a.tree.marks ≡ []
+  pub far : a.far ≡ at

@@ -4,6 +4,7 @@ ghost use Rattle.surface_tree.specs.declared.kind.Kind.{Kind};
 ghost use Rattle.surface_grammar.specs.declared.form.Form.{Form};
 ghost use Rattle.grammar_engine.specs.Choices.{OneTree};
 ghost use Rattle.grammar_engine.specs.Laws.{one_token_decides};
+ghost use Rattle.grammar_engine.specs.Single.{OneWholeTree};
 
 /// The table is one in which a token decides: it begins a form exactly where it begins a rule of
 /// it, and but in two forms it begins one rule alone.
@@ -15,4 +16,9 @@ pub fn one_token_decides()
 /// does not decide, are one tree, and leave the same tokens.
 pub fn one_tree()
     ensures { OneTree }
+{}
+
+/// Two trees of a whole text that spell the same tokens are one tree.
+pub fn one_whole_tree()
+    ensures { OneWholeTree }
 {}

@@ -1,18 +1,21 @@
 //! The state of reading, and its steps.
-ghost use Rattle.std.specs.Prelude.{◌≡◌, ◌≤◌, ◌++◌, ◌∷◌, [], drop, false, OnOk, IfOk, IfSome, IsTrue};
+ghost use Rattle.std.specs.Prelude.{◌≡◌, ◌≤◌, ◌++◌, ◌∷◌, [], ◌<◌, ◌≢◌, length, drop, max, false, OnOk, IfOk, IfErr, IfSome, IfNone, IsTrue, IsFalse};
 ghost use Rattle.surface_grammar.specs.Fronts.{first_kind};
 ghost use Rattle.surface_grammar.specs.Table.{body_of};
-ghost use Rattle.surface_grammar.specs.Trees.{depth_of, must_go_on};
+ghost use Rattle.surface_grammar.specs.Trees.{begins, depth_of, must_go_on};
+ghost use Rattle.grammar_engine.specs.Allowed.{RefusedHere};
+ghost use Rattle.grammar_engine.specs.Blocks.{Cramped, StartedBy, TakeBlocked};
 ghost use Rattle.grammar_engine.specs.Moves.{Begun, Chosen, Expands, Goes, Takes, wants_of};
 ghost use Rattle.grammar_engine.specs.Places.{name_at};
+ghost use Rattle.grammar_engine.specs.Rooms.{least_of};
 
 use crate::tokens::{copy_token, kind_at, same_name};
 use crate::{Stop, Want, Wants};
 use std::alloc::{AllocError, Global};
 use surface_grammar::sides::is_tag;
 use surface_grammar::words::accepts;
-use surface_grammar::{Form, Mark, Part, Rule, SqlRule, Tree};
-use surface_tree::{Kind, Tokens};
+use surface_grammar::{ConRule, ExpRule, Form, Mark, Part, Rule, SqlRule, Tree};
+use surface_tree::{Content, Kind, Tokens};
 
 /// How far reading has come: the place of the next token, what is still to be read, the tree so
 /// far, and the farthest place at which a way that was tried beside this one was refused.
@@ -26,26 +29,45 @@ pub struct Machine {
 
 /// Whether the token at the place holds the name that the token at the other place holds.
 fn is_named(tokens: &Tokens, place: usize, tag: usize) -> bool
-    ensures { IsTrue result → name_at tokens.now.items place ≡ name_at tokens.now.items tag }
+    requires { place < length tokens.now.items }
+    ensures yes { IsTrue result → name_at tokens.now.items place ≡ name_at tokens.now.items tag }
+    ensures other { IsFalse result → name_at tokens.now.items place ≢ name_at tokens.now.items tag }
 {
-    place < tokens.len() && tag < tokens.len() && same_name(tokens.at(place), tokens.at(tag))
+    let token = tokens.at(place);
+    if tag < tokens.len() {
+        same_name(token, tokens.at(tag))
+    } else {
+        matches!(token.content, Content::Nothing)
+    }
 }
 
-/// How many levels every tree of the rule has, as far as its first token doesn't show it: where
-/// there is less room, no tree allows that token.
+/// How many levels every tree of the rule has, as far as a part that it must have shows it: where
+/// there is less room, no tree allows its first token.
 fn least_room(rule: Rule) -> u32
-    ensures { depth_of rule ≤ result }
+    ensures depth { depth_of rule ≤ result }
+    ensures least { result ≡ least_of rule }
 {
     match rule {
         Rule::Sql(SqlRule::ItemBraces | SqlRule::TableBraces) => 2,
-        Rule::Sql(SqlRule::SqlInsert) => 1,
+        Rule::Con(
+            ConRule::ConBracket
+            | ConRule::BracketInt
+            | ConRule::BracketLower
+            | ConRule::BracketUpper
+            | ConRule::BracketHash
+            | ConRule::BracketHashUpper,
+        )
+        | Rule::Exp(ExpRule::ExpBind)
+        | Rule::Sql(SqlRule::SqlInsert) => 1,
         _ => u32::from(rule.is_deep()),
     }
 }
 
 /// The first rule of the form that the token begins.
 pub fn choose(form: Form, next: Option<Kind>) -> Option<Rule>
-    ensures { IfSome result (λ q. Chosen form next q) }
+    ensures chosen { IfSome result (λ q. Chosen form next q) }
+    ensures starts { IfSome result (StartedBy next) }
+    ensures none { IfNone result (begins form next ≡ false) }
 {
     let kind = next?;
     for rule in form.rules() {
@@ -76,7 +98,9 @@ impl Machine {
     }
 
     /// The refusal of the next token, or of a later one that another way came to.
-    pub fn refuse(&self) -> Stop {
+    pub fn refuse(&self) -> Stop
+        ensures { result ≡ Stop.Refused (max self.now.at self.now.far) }
+    {
         Stop::Refused(self.at.max(self.far))
     }
 
@@ -88,7 +112,10 @@ impl Machine {
         word: Kind,
         tag: usize,
     ) -> Result<(), Stop>
-        ensures { OnOk result (Takes tokens.now.items word tag self.old self.new) }
+        ensures takes { OnOk result (Takes tokens.now.items word tag self.old self.new) }
+        ensures blocked { IfErr result (TakeBlocked tokens.now.items word tag self.old.at) }
+        ensures refused { IfErr result (RefusedHere self.old) }
+        ensures far { self.new.far ≡ self.old.far }
     {
         if self.at >= tokens.len() {
             return Err(self.refuse());
@@ -111,6 +138,7 @@ impl Machine {
         ensures wants { OnOk result (self.new.wants ≡ wants_of room tag (body_of rule) ++ self.old.wants) }
         ensures tree { OnOk result (self.new.tree ≡ self.old.tree) }
         ensures at { self.new.at ≡ self.old.at }
+        ensures far { self.new.far ≡ self.old.far }
     {
         let parts = rule.body();
         let mut left = parts.len();
@@ -135,7 +163,10 @@ impl Machine {
         tag: usize,
     ) -> Result<(), Stop>
         requires { Chosen form (first_kind (drop self.old.at tokens.now.items)) rule }
-        ensures { OnOk result (Expands tokens.now.items form room tag self.old self.new) }
+        ensures expands { OnOk result (Expands tokens.now.items form room tag self.old self.new) }
+        ensures cramped { IfErr result (Cramped rule room) }
+        ensures refused { IfErr result (RefusedHere self.old) }
+        ensures far { self.new.far ≡ self.old.far }
     {
         if room < least_room(rule) {
             return Err(self.refuse());
@@ -155,7 +186,8 @@ impl Machine {
         room: u32,
         tag: usize,
     ) -> Result<(), AllocError>
-        ensures { OnOk result (Goes tokens.now.items form room tag (record { part = Part.Many form; room = room; tag = tag } ∷ []) self.old self.new) }
+        ensures goes { OnOk result (Goes tokens.now.items form room tag (record { part = Part.Many form; room = room; tag = tag } ∷ []) self.old self.new) }
+        ensures far { self.new.far ≡ self.old.far }
     {
         if form.begins(kind_at(tokens, self.at)) {
             self.tree.mark(Mark::Item)?;
@@ -185,7 +217,8 @@ impl Machine {
         taken: bool,
     ) -> Result<(), AllocError>
         requires { taken ≡ false → must_go_on form (first_kind (drop self.old.at tokens.now.items)) ≡ false }
-        ensures { OnOk result (Goes tokens.now.items form room tag [] self.old self.new) }
+        ensures goes { OnOk result (Goes tokens.now.items form room tag [] self.old self.new) }
+        ensures far { self.new.far ≡ self.old.far }
     {
         if taken {
             self.tree.mark(Mark::Item)?;

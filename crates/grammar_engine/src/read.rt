@@ -1,10 +1,14 @@
 //! Reading a part to its end.
-ghost use Rattle.std.specs.Prelude.{◌≡◌, ◌∷◌, drop, false, OnOk, IfSome, IfOk};
+ghost use Rattle.std.specs.Prelude.{◌≡◌, ◌∷◌, drop, max, false, OnOk, IfSome, IfOk, IfErr, IsTrue, Some, ◌≤◌};
 ghost use Rattle.surface_grammar.specs.Fronts.{first_kind};
 ghost use Rattle.surface_grammar.specs.Refusals.{deepest, WholeTree};
 ghost use Rattle.surface_grammar.specs.Trees.{must_go_on};
+ghost use Rattle.grammar_engine.specs.Allowed.{AllowedAt, Beside, Raised, RefusesPart, StopsAllowed};
+ghost use Rattle.grammar_engine.specs.Faults.{byte_at, Deeper, FaultAllowed};
 ghost use Rattle.grammar_engine.specs.Moves.{Chosen, Kept, MeetsPart};
 ghost use Rattle.grammar_engine.specs.Reads.{Reads};
+ghost use Rattle.grammar_engine.specs.Single.{OnlyTree};
+ghost use Rattle.grammar_engine.specs.Stuck.{FaultStuck, MeetsBlocked, StopsStuck, StopsWhole};
 
 use crate::machine::choose;
 use crate::tokens::kind_at;
@@ -44,7 +48,10 @@ pub fn read_part(
     room: u32,
     races: u32,
 ) -> Result<Reading, Stop>
-    ensures { IfOk result (λ read. Reads tokens.now.items part at room read.tree read.behind) }
+    ensures reads { IfOk result (λ read. Reads tokens.now.items part at room read.tree read.behind) }
+    ensures come { IfOk result (λ read. AllowedAt tokens.now.items part at room (max read.behind read.far)) }
+    ensures allowed { IfErr result (StopsAllowed tokens.now.items part at room) }
+    ensures stuck { IfErr result (StopsStuck tokens.now.items part at room) }
 {
     let mut machine = Machine::new(alloc, part, at, room)?;
     while let Some(want) = machine.wants.pop() {
@@ -66,7 +73,10 @@ fn meet(
     want: Want,
     races: u32,
 ) -> Result<(), Stop>
-    ensures { OnOk result (MeetsPart tokens.now.items want.part want.room want.tag machine.old machine.new) }
+    ensures meets { OnOk result (MeetsPart tokens.now.items want.part want.room want.tag machine.old machine.new) }
+    ensures raised { OnOk result (Raised (Beside tokens.now.items want.part want.room machine.old.at machine.old.wants) machine.old.far machine.new.far) }
+    ensures refused { IfErr result (RefusesPart tokens.now.items want.part want.room machine.old) }
+    ensures blocked { IfErr result (MeetsBlocked tokens.now.items want.part want.room want.tag machine.old.at) }
 {
     match want.part {
         Part::Word(word) => machine.take(alloc, tokens, word, want.tag),
@@ -94,6 +104,9 @@ fn pick(
 ) -> Result<Rule, Stop>
     ensures chosen { IfOk result (λ q. Chosen form (first_kind (drop machine.old.at tokens.now.items)) q) }
     ensures kept { OnOk result (Kept machine.old machine.new) }
+    ensures raised { OnOk result (Raised (Beside tokens.now.items (Part.One form) room machine.old.at machine.old.wants) machine.old.far machine.new.far) }
+    ensures refused { IfErr result (RefusesPart tokens.now.items (Part.One form) room machine.old) }
+    ensures blocked { IfErr result (MeetsBlocked tokens.now.items (Part.One form) room 0 machine.old.at) }
 {
     let next = kind_at(tokens, machine.at);
     match form {
@@ -124,7 +137,8 @@ fn is_bind(
     room: u32,
     races: u32,
 ) -> Result<bool, AllocError>
-    ensures { OnOk result (Kept machine.old machine.new) }
+    ensures kept { OnOk result (Kept machine.old machine.new) }
+    ensures raised { OnOk result (Raised (Beside tokens.now.items (Part.One Form.Exp) room machine.old.at machine.old.wants) machine.old.far machine.new.far) }
 {
     if room == 0 {
         return Ok(false);
@@ -148,6 +162,7 @@ fn goes_on(
 ) -> Result<bool, AllocError>
     ensures sure { IfOk result (λ taken. taken ≡ false → must_go_on form (first_kind (drop machine.old.at tokens.now.items)) ≡ false) }
     ensures kept { OnOk result (Kept machine.old machine.new) }
+    ensures raised { OnOk result (Raised (Beside tokens.now.items (Part.Maybe form) 0 machine.old.at machine.old.wants) machine.old.far machine.new.far) }
 {
     let next = kind_at(tokens, machine.at);
     match (form, next) {
@@ -167,8 +182,13 @@ fn is_kind_mark(
     tokens: &Tokens,
     races: u32,
 ) -> Result<bool, AllocError>
-    ensures { OnOk result (Kept machine.old machine.new) }
+    requires { first_kind (drop machine.old.at tokens.now.items) ≡ Some Kind.DoubleColon }
+    ensures kept { OnOk result (Kept machine.old machine.new) }
+    ensures raised { OnOk result (Raised (Beside tokens.now.items (Part.Maybe Form.ConForall) 0 machine.old.at machine.old.wants) machine.old.far machine.new.far) }
 {
+    if machine.at >= tokens.len() {
+        return Ok(false);
+    }
     match machine.wants.first_solid() {
         Some(
             Want {
@@ -179,7 +199,7 @@ fn is_kind_mark(
         ) => {
             let way = Way {
                 form: Form::KindTerm,
-                start: machine.at.saturating_add(1),
+                start: machine.at + 1,
                 behind: Kind::RightParenthesis,
             };
             try_way(machine, alloc, tokens, way, room, races)
@@ -198,7 +218,8 @@ fn try_way(
     room: u32,
     races: u32,
 ) -> Result<bool, AllocError>
-    ensures { OnOk result (Kept machine.old machine.new) }
+    ensures kept { OnOk result (Kept machine.old machine.new) }
+    ensures raised { OnOk result (Raised (AllowedAt tokens.now.items (Part.One way.form) way.start room) machine.old.far machine.new.far) }
 {
     if races == 0 {
         return Ok(false);
@@ -216,7 +237,7 @@ fn try_way(
         races - 1,
     ) {
         Ok(read) => {
-            machine.far = machine.far.max(read.behind).max(read.far);
+            machine.far = machine.far.max(read.behind.max(read.far));
             Ok(kind_at(tokens, read.behind) == Some(way.behind))
         }
         Err(Stop::Refused(place)) => {
@@ -228,7 +249,9 @@ fn try_way(
 }
 
 /// The byte of the text at which the token at the place begins, or the text's length at the end.
-fn byte_of(tokens: &Tokens, place: usize) -> u32 {
+fn byte_of(tokens: &Tokens, place: usize) -> u32
+    ensures { result ≡ byte_at tokens.now place }
+{
     if place < tokens.len() {
         tokens.at(place).at
     } else {
@@ -242,7 +265,10 @@ pub const DEEPEST: u32 = 200;
 /// Reads all the tokens as a tree for the part that begins at the place and is at most so many
 /// levels deep.
 fn read_all(alloc: Global, tokens: &Tokens, part: Part, room: u32) -> Result<Tree, Stop>
-    ensures { IfOk result (λ tree. WholeTree room part tokens.now.items tree) }
+    requires { 2 ≤ room }
+    ensures tree { IfOk result (λ tree. WholeTree room part tokens.now.items tree) }
+    ensures allowed { IfErr result (StopsAllowed tokens.now.items part 0 room) }
+    ensures stuck { IfErr result (StopsWhole tokens.now.items part room) }
 {
     let read = read_part(alloc, tokens, part, 0, room, 2)?;
     if read.behind < tokens.len() {
@@ -251,9 +277,23 @@ fn read_all(alloc: Global, tokens: &Tokens, part: Part, room: u32) -> Result<Tre
     Ok(read.tree)
 }
 
+/// Whether a tree of any depth goes on at the place.
+fn is_deeper(alloc: Global, tokens: &Tokens, part: Part, place: usize) -> Result<bool, AllocError>
+    ensures { IfOk result (λ deeper. IsTrue deeper → Deeper part tokens.now.items place) }
+{
+    match read_all(alloc, tokens, part, u32::MAX) {
+        Ok(_tree) => Ok(true),
+        Err(Stop::Refused(later)) => Ok(place < later),
+        Err(Stop::Memory) => Err(AllocError),
+    }
+}
+
 /// The tree for the part that spells the tokens, at most 200 levels deep.
 pub fn read_whole(alloc: Global, tokens: &Tokens, part: Part) -> Result<Tree, ParseFault>
-    ensures { IfOk result (λ tree. WholeTree deepest part tokens.now.items tree) }
+    ensures tree { IfOk result (λ tree. WholeTree deepest part tokens.now.items tree) }
+    ensures only { IfOk result (OnlyTree part tokens.now.items) }
+    ensures allowed { IfErr result (FaultAllowed part tokens.now) }
+    ensures stuck { IfErr result (FaultStuck part tokens.now) }
 {
     let place = match read_all(alloc, tokens, part, DEEPEST) {
         Ok(tree) => return Ok(tree),
@@ -261,9 +301,8 @@ pub fn read_whole(alloc: Global, tokens: &Tokens, part: Part) -> Result<Tree, Pa
         Err(Stop::Memory) => return Err(ParseFault::Memory),
     };
     let at = byte_of(tokens, place);
-    match read_all(alloc, tokens, part, u32::MAX) {
-        Err(Stop::Memory) => Err(ParseFault::Memory),
-        Err(Stop::Refused(later)) if later <= place => Err(ParseFault::Syntax { at }),
-        _ => Err(ParseFault::TooDeep { at }),
+    if is_deeper(alloc, tokens, part, place)? {
+        return Err(ParseFault::TooDeep { at });
     }
+    Err(ParseFault::Syntax { at })
 }

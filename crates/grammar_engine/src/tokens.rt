@@ -1,5 +1,5 @@
 //! Looking at tokens, and copying one.
-ghost use Rattle.std.specs.Prelude.{◌≡◌, ◌<◌, length, drop, IfOk, IfSome, IsTrue};
+ghost use Rattle.std.specs.Prelude.{◌≡◌, ◌<◌, length, drop, IfOk, IfSome, IsTrue, IsFalse, ◌≢◌};
 ghost use Rattle.surface_grammar.specs.Fronts.{first_kind};
 ghost use Rattle.grammar_engine.specs.Places.{name_at};
 
@@ -40,13 +40,15 @@ pub fn copy_token(alloc: Global, token: &Token) -> Result<Token, AllocError>
     })
 }
 
-/// Whether the two tokens hold the same characters. Yes is exact; tokens without characters are
-/// never the same.
+/// Whether the two tokens hold the same.
 pub fn same_name(left: &Token, right: &Token) -> bool
-    ensures { IsTrue result → left.now.content ≡ right.now.content }
+    ensures yes { IsTrue result → left.now.content ≡ right.now.content }
+    ensures other { IsFalse result → left.now.content ≢ right.now.content }
 {
     match (&left.content, &right.content) {
         (Content::Characters(one), Content::Characters(other)) => one.as_str() == other.as_str(),
+        (Content::Number(one), Content::Number(other)) => *one == *other,
+        (Content::Nothing, Content::Nothing) => true,
         _ => false,
     }
 }

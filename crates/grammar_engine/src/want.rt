@@ -1,5 +1,6 @@
 //! What is still to be read.
-ghost use Rattle.std.specs.Prelude.{◌≡◌, [], ◌∷◌, MatchOption, OnOk, OnErr};
+ghost use Rattle.std.specs.Prelude.{◌≡◌, [], ◌∷◌, reverse, MatchOption, OnOk, OnErr};
+ghost use Rattle.grammar_engine.specs.Solid.{first_solid};
 
 use std::alloc::{AllocError, Global};
 use std::marker::Model;
@@ -56,13 +57,25 @@ impl Wants {
     }
 
     /// The first that can't be left out.
-    pub fn first_solid(&self) -> Option<Want> {
-        for want in self.stack.iter().rev() {
-            match want.part {
-                Part::Many(_) | Part::Maybe(_) => {}
-                _ => return Some(*want),
-            }
-        }
-        None
+    pub fn first_solid(&self) -> Option<Want>
+        ensures { result ≡ first_solid self.now }
+    {
+        last_solid(&self.stack)
     }
+}
+
+/// The last that can't be left out.
+fn last_solid(wants: &[Want]) -> Option<Want>
+    ensures { result ≡ first_solid (reverse wants.now) }
+{
+    let mut left = wants.len();
+    while left > 0 {
+        left -= 1;
+        let want = wants[left];
+        match want.part {
+            Part::Many(_) | Part::Maybe(_) => {}
+            Part::Word(_) | Part::One(_) => return Some(want),
+        }
+    }
+    None
 }

@@ -10,7 +10,7 @@ use Rattle.page_bytes.specs.Pages.{WritesPage, WritesFront}
 use Rattle.ur_outside.specs.Whole.{AppendsFront}
 use Rattle.std.proofs.lemmas.List.{take_at}
 use Rattle.page_server.specs.declared.refusal.ModuleFault.{ModuleFault}
-use Rattle.page_server.specs.declared.refusal.ModuleFault.TheVariants.{FileTooLong, NotUtf8, BadChar, OpenText, OpenComment, IntTooLarge, NotBuilt, Memory}
+use Rattle.page_server.specs.declared.refusal.ModuleFault.TheVariants.{FileTooLong, NotUtf8, BadChar, OpenText, OpenComment, IntTooLarge, Syntax, TooDeep, NotBuilt, Memory}
 use Rattle.page_server.specs.Lines.{line_of}
 use Rattle.page_server.specs.Modules.{HasPage, IsRefused}
 use Rattle.page_server.specs.Top.{PageIsWritten, RefusalIsWritten, FrontIsWritten, IsToldPage}
@@ -31,6 +31,8 @@ too_long x v (BadChar at) le long h = absurd (omega (arith, long, h.0.0))
 too_long x v (OpenText at) le long h = absurd (omega (arith, long, h.0.0))
 too_long x v (OpenComment at) le long h = absurd (omega (arith, long, h.0.0))
 too_long x v (IntTooLarge at) le long h = absurd (omega (arith, long, h.0.0))
+too_long x v (Syntax at) le long h = absurd (omega (arith, long, h.0.0))
+too_long x v (TooDeep at) le long h = absurd (omega (arith, long, h.0.0))
 too_long x v NotBuilt le long h = absurd (omega (arith, long, h.0.0))
 too_long x v Memory le long h = tt
 

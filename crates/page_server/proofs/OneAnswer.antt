@@ -6,7 +6,7 @@ use Rattle.ur_lexer.specs.Lexing.{Lexes, at_end, at_fault, Ending, TextsHaveOneR
 use Rattle.ur_parser.specs.Small.{Module, IsSmall, SmallModulesAreUnique}
 use Rattle.ur_parser.specs.Pages.{page_of}
 use Rattle.page_server.specs.declared.refusal.ModuleFault.{ModuleFault}
-use Rattle.page_server.specs.declared.refusal.ModuleFault.TheVariants.{FileTooLong, NotUtf8, BadChar, OpenText, OpenComment, IntTooLarge, NotBuilt, Memory}
+use Rattle.page_server.specs.declared.refusal.ModuleFault.TheVariants.{FileTooLong, NotUtf8, BadChar, OpenText, OpenComment, IntTooLarge, Syntax, TooDeep, NotBuilt, Memory}
 use Rattle.page_server.specs.Modules.{HasPage, IsRefused, ModulesHaveOneAnswer, ModulesHaveOnePage}
 
 -- no reading ends both at the text's end and at a fault
@@ -20,8 +20,14 @@ one_answer one bytes trees (BadChar at) (is, few, tokens, lexes, m, small, page)
 one_answer one bytes trees (OpenText at) (is, few, tokens, lexes, m, small, page) (same, (told, fails)) = absurd (never _ (one bytes tokens told _ _ lexes fails).1)
 one_answer one bytes trees (OpenComment at) (is, few, tokens, lexes, m, small, page) (same, (told, fails)) = absurd (never _ (one bytes tokens told _ _ lexes fails).1)
 one_answer one bytes trees (IntTooLarge at) (is, few, tokens, lexes, m, small, page) (same, (told, fails)) = absurd (never _ (one bytes tokens told _ _ lexes fails).1)
-one_answer one bytes trees NotBuilt (is, few, tokens, lexes, m, small, page) (same, (others, reads, inl long)) = absurd (omega (arith, few, long))
-one_answer one bytes trees NotBuilt (is, few, tokens, lexes, m, small, page) (same, (others, reads, inr none)) =
+one_answer one bytes trees (Syntax at) (is, few, tokens, lexes, m, small, page) (same, (others, reads, (inl long, told))) = absurd (omega (arith, few, long))
+one_answer one bytes trees (Syntax at) (is, few, tokens, lexes, m, small, page) (same, (others, reads, (inr none, told))) =
+    absurd (none m (subst (λ (l : List Token). IsSmall l m) (one bytes tokens others _ _ lexes reads).0 small))
+one_answer one bytes trees (TooDeep at) (is, few, tokens, lexes, m, small, page) (same, (others, reads, (inl long, told))) = absurd (omega (arith, few, long))
+one_answer one bytes trees (TooDeep at) (is, few, tokens, lexes, m, small, page) (same, (others, reads, (inr none, told))) =
+    absurd (none m (subst (λ (l : List Token). IsSmall l m) (one bytes tokens others _ _ lexes reads).0 small))
+one_answer one bytes trees NotBuilt (is, few, tokens, lexes, m, small, page) (same, (others, reads, (inl long, told))) = absurd (omega (arith, few, long))
+one_answer one bytes trees NotBuilt (is, few, tokens, lexes, m, small, page) (same, (others, reads, (inr none, told))) =
     absurd (none m (subst (λ (l : List Token). IsSmall l m) (one bytes tokens others _ _ lexes reads).0 small))
 one_answer one bytes trees Memory h r = refl
 

@@ -1,7 +1,7 @@
 -- The lines that the program writes in place of a page.
 use Rattle.std.specs.Prelude.{ℕ, List, ◌++◌, codes, decimal, Option, Some, None}
 use Rattle.page_server.specs.declared.refusal.ModuleFault.{ModuleFault}
-use Rattle.page_server.specs.declared.refusal.ModuleFault.TheVariants.{FileTooLong, NotUtf8, BadChar, OpenText, OpenComment, IntTooLarge, NotBuilt, Memory}
+use Rattle.page_server.specs.declared.refusal.ModuleFault.TheVariants.{FileTooLong, NotUtf8, BadChar, OpenText, OpenComment, IntTooLarge, Syntax, TooDeep, NotBuilt, Memory}
 
 -- the line of a refusal of the whole module
 abbrev pub line_whole : List ℕ → List ℕ
@@ -19,6 +19,8 @@ line_of (BadChar at) = Some (line_at at (codes "BadChar"))
 line_of (OpenText at) = Some (line_at at (codes "OpenText"))
 line_of (OpenComment at) = Some (line_at at (codes "OpenComment"))
 line_of (IntTooLarge at) = Some (line_at at (codes "IntTooLarge"))
+line_of (Syntax at) = Some (line_at at (codes "Syntax"))
+line_of (TooDeep at) = Some (line_at at (codes "TooDeep"))
 line_of NotBuilt = Some (line_whole (codes "NotBuilt"))
 line_of Memory = None
 

@@ -2,16 +2,20 @@
 use Rattle.std.specs.Prelude.{◌≡◌, ℕ, ◌<◌, ◌≤◌, ◌⊎◌, List, length}
 use Rattle.std.specs.Str.{IsUtf8}
 use Rattle.surface_tree.specs.declared.token.Token.{Token}
+use Rattle.surface_tree.specs.TokenList.{TokenList}
+use Rattle.surface_grammar.specs.declared.fault.ParseFault.{ParseFault}
+use Rattle.surface_grammar.specs.declared.fault.ParseFault.TheVariants as parser
+use Rattle.surface_grammar.specs.Refusals.{deepest, Whole}
+use Rattle.surface_grammar.specs.Trees.{Node, spell}
 use Rattle.xml_trees.specs.Trees.{Trees}
 use Rattle.ur_lexer.specs.Lexing.{Lexes, at_end, IsTold}
 use Rattle.ur_lexer.specs.declared.fault.LexFault.{LexFault}
 use Rattle.ur_lexer.specs.declared.fault.LexFault.TheVariants as lexer
 use Rattle.ur_parser.specs.Small.{Module, IsSmall, IsNoSmall, longest as longest_small}
 use Rattle.ur_parser.specs.Pages.{page_of}
-use Rattle.ur_parser.specs.declared.fault.SmallFault.{SmallFault}
-use Rattle.ur_parser.specs.declared.fault.SmallFault.TheVariants as reader
+use Rattle.ur_parser.specs.Sources.{module_part, IsNoModule}
 use Rattle.page_server.specs.declared.refusal.ModuleFault.{ModuleFault}
-use Rattle.page_server.specs.declared.refusal.ModuleFault.TheVariants.{FileTooLong, NotUtf8, BadChar, OpenText, OpenComment, IntTooLarge, NotBuilt, Memory}
+use Rattle.page_server.specs.declared.refusal.ModuleFault.TheVariants.{FileTooLong, NotUtf8, BadChar, OpenText, OpenComment, IntTooLarge, Syntax, TooDeep, NotBuilt, Memory}
 
 -- a fault of the lexer as a refusal
 abbrev pub lexical : LexFault → ModuleFault
@@ -21,10 +25,11 @@ lexical (lexer.OpenComment at) = OpenComment at
 lexical (lexer.IntTooLarge at) = IntTooLarge at
 lexical lexer.Memory = Memory
 
--- a fault of the reader as a refusal
-abbrev pub unread : SmallFault → ModuleFault
-unread reader.NotBuilt = NotBuilt
-unread reader.Memory = Memory
+-- a fault of the parser as a refusal
+abbrev pub unparsed : ParseFault → ModuleFault
+unparsed (parser.Syntax at) = Syntax at
+unparsed (parser.TooDeep at) = TooDeep at
+unparsed parser.Memory = Memory
 
 -- the most bytes that a module has
 abbrev pub longest : ℕ
@@ -41,9 +46,31 @@ HasPage bytes trees =
     IsModule bytes × (length bytes ≤ longest_small) × (tokens : List Token) × Lexes bytes tokens at_end
     × (m : Module) × IsSmall tokens m × (trees ≡ page_of m)
 
--- The module has tokens, and is too long for the small form or no module of it.
-abbrev pub HasNoForm : List ℕ → Type 0
-HasNoForm bytes = (tokens : List Token) × Lexes bytes tokens at_end × ((longest_small < length bytes) ⊎ IsNoSmall tokens)
+-- the tokens are those of a module
+abbrev pub IsParsed : List Token → Type 0
+IsParsed tokens = (n : Node) × Whole deepest module_part n × (spell n ≡ tokens)
+
+-- why tokens that aren't of the small form have no page: no module has them, as the parser tells, or they are those of
+-- another module
+abbrev pub IsOtherForm : TokenList → ModuleFault → Type 0
+IsOtherForm ts (Syntax at) = IsNoModule ts (parser.Syntax at)
+IsOtherForm ts (TooDeep at) = IsNoModule ts (parser.TooDeep at)
+IsOtherForm ts NotBuilt = IsParsed ts.items
+IsOtherForm ts Memory = Unit {0}
+IsOtherForm ts _ = ⊥
+
+-- the text is too long for the small form, or its tokens are of no module of it
+abbrev pub IsNotSmall : TokenList → Type 0
+IsNotSmall ts = (longest_small < ts.end) ⊎ IsNoSmall ts.items
+
+-- why tokens have no page; want of memory says nothing of them
+abbrev pub HasNoPage : TokenList → ModuleFault → Type 0
+HasNoPage ts Memory = Unit {0}
+HasNoPage ts fault = IsNotSmall ts × IsOtherForm ts fault
+
+-- The module has tokens, and they have no page for this reason.
+abbrev pub HasNoForm : List ℕ → ModuleFault → Type 0
+HasNoForm bytes fault = (tokens : List Token) × Lexes bytes tokens at_end × HasNoPage (record { items = tokens; end = length bytes }) fault
 
 -- Why a module has no page; want of memory says nothing of it.
 abbrev pub IsRefused : List ℕ → ModuleFault → Type 0
@@ -53,7 +80,9 @@ IsRefused bytes (BadChar at) = IsModule bytes × IsTold bytes (lexer.BadChar at)
 IsRefused bytes (OpenText at) = IsModule bytes × IsTold bytes (lexer.OpenText at)
 IsRefused bytes (OpenComment at) = IsModule bytes × IsTold bytes (lexer.OpenComment at)
 IsRefused bytes (IntTooLarge at) = IsModule bytes × IsTold bytes (lexer.IntTooLarge at)
-IsRefused bytes NotBuilt = IsModule bytes × HasNoForm bytes
+IsRefused bytes (Syntax at) = IsModule bytes × HasNoForm bytes (Syntax at)
+IsRefused bytes (TooDeep at) = IsModule bytes × HasNoForm bytes (TooDeep at)
+IsRefused bytes NotBuilt = IsModule bytes × HasNoForm bytes NotBuilt
 IsRefused bytes Memory = Unit {0}
 
 -- A module that has a page is refused for no reason but want of memory.

@@ -1,18 +1,46 @@
 //! From the bytes of a module to its page.
-ghost use Rattle.std.specs.Prelude.{◌≡◌, IfOk, IfErr, IsOkUnless};
-ghost use Rattle.xml_trees.specs.Trees.{Trees, IsWhole, built, trees_of};
-ghost use Rattle.page_server.specs.Modules.{HasPage, IsRefused};
+ghost use Rattle.std.specs.Prelude.{◌≡◌, ◌≤◌, IfOk, IfErr, OnOk, IsOkUnless};
+ghost use Rattle.xml_trees.specs.Trees.{Trees, IsWhole, Whole, built, trees_of};
+ghost use Rattle.ur_parser.specs.Small.{Module, IsSmall, longest as longest_small};
+ghost use Rattle.ur_parser.specs.Pages.{page_of as page_tree};
+ghost use Rattle.page_server.specs.Modules.{HasNoPage, HasPage, IsOtherForm, IsRefused};
 
 use crate::ModuleFault;
 use std::alloc::Global;
 use std::str;
+use surface_tree::Tokens;
 use ur_lexer::laws::texts_have_one_reading;
 use ur_lexer::lex;
-use ur_parser::read_small;
+use ur_parser::{SmallFault, parse, read_small};
 use xml_trees::Page;
 
 /// The most bytes that a module has.
 pub const LONGEST: usize = 4194304;
+
+/// Why tokens that are of no small module have no page: the grammar refuses them, or they are of another form.
+fn unbuilt(alloc: Global, tokens: &Tokens) -> ModuleFault
+    ensures { IsOtherForm tokens.now result }
+{
+    match parse(alloc, tokens) {
+        Ok(_tree) => ModuleFault::NotBuilt,
+        Err(fault) => ModuleFault::from(fault),
+    }
+}
+
+/// The page of a module's tokens. Those of the small form are those of a module, so the grammar is asked only where they
+/// are of another form.
+fn page_of_tokens(alloc: Global, tokens: &Tokens) -> Result<Page, ModuleFault>
+    ensures short { OnOk result (tokens.now.end ≤ longest_small) }
+    ensures page { IfOk result (λ page. (m : Module) × IsSmall tokens.now.items m × (built page ≡ Whole (page_tree m))) }
+    ensures refused { IfErr result (HasNoPage tokens.now) }
+    ensures complete { tokens.now.end ≤ longest_small → (m : Module) → IsSmall tokens.now.items m → IsOkUnless result ModuleFault.Memory }
+{
+    match read_small(alloc, tokens) {
+        Ok(small) => Ok(small.page),
+        Err(SmallFault::NotBuilt) => Err(unbuilt(alloc, tokens)),
+        Err(SmallFault::Memory) => Err(ModuleFault::Memory),
+    }
+}
 
 /// The page of a module.
 pub fn page_of(alloc: Global, bytes: &[u8]) -> Result<Page, ModuleFault>
@@ -29,6 +57,6 @@ pub fn page_of(alloc: Global, bytes: &[u8]) -> Result<Page, ModuleFault>
     };
     texts_have_one_reading();
     let tokens = lex(alloc, text)?;
-    let small = read_small(alloc, &tokens)?;
-    Ok(small.page)
+    let page = page_of_tokens(alloc, &tokens)?;
+    Ok(page)
 }

@@ -3,9 +3,9 @@ ghost use Rattle.std.specs.Prelude.{◌≡◌, IfOk, Some, string_bytes};
 ghost use Rattle.page_server.specs.Lines.{line_at, line_whole, line_of};
 
 use std::alloc::{AllocError, Global};
+use surface_grammar::ParseFault;
 use thiserror::Error;
 use ur_lexer::LexFault;
-use ur_parser::SmallFault;
 
 /// Why a module has no page, in the order in which it is asked. `at` is a byte of the module.
 #[derive(Debug, Drop, Error)]
@@ -28,6 +28,12 @@ pub enum ModuleFault {
     /// The integer that begins here has more than 63 bits.
     #[error("the integer at byte {at} is above 9223372036854775807")]
     IntTooLarge { at: u32 },
+    /// No module has this token after those before it.
+    #[error("no module has what stands at byte {at} there")]
+    Syntax { at: u32 },
+    /// Only a module more than 200 levels deep has this token after those before it.
+    #[error("what stands at byte {at} lies more than 200 levels deep")]
+    TooDeep { at: u32 },
     /// The module is of a form that isn't built yet.
     #[error("the module is of a form that isn't built yet")]
     NotBuilt,
@@ -53,16 +59,17 @@ impl From<LexFault> for ModuleFault {
     }
 }
 
-impl From<SmallFault> for ModuleFault {
+impl From<ParseFault> for ModuleFault {
     ghost use Rattle.std.specs.Prelude.{◌≡◌};
-    ghost use Rattle.page_server.specs.Modules.{unread};
+    ghost use Rattle.page_server.specs.Modules.{unparsed};
 
-    ghost from_gives = { λ fault made. made ≡ unread fault };
+    ghost from_gives = { λ fault made. made ≡ unparsed fault };
 
-    fn from(fault: SmallFault) -> ModuleFault {
+    fn from(fault: ParseFault) -> ModuleFault {
         match fault {
-            SmallFault::NotBuilt => ModuleFault::NotBuilt,
-            SmallFault::Memory => ModuleFault::Memory,
+            ParseFault::Syntax { at } => ModuleFault::Syntax { at },
+            ParseFault::TooDeep { at } => ModuleFault::TooDeep { at },
+            ParseFault::Memory => ModuleFault::Memory,
         }
     }
 }
@@ -101,6 +108,8 @@ impl ModuleFault {
             ModuleFault::OpenText { at } => line_at(alloc, *at, "OpenText"),
             ModuleFault::OpenComment { at } => line_at(alloc, *at, "OpenComment"),
             ModuleFault::IntTooLarge { at } => line_at(alloc, *at, "IntTooLarge"),
+            ModuleFault::Syntax { at } => line_at(alloc, *at, "Syntax"),
+            ModuleFault::TooDeep { at } => line_at(alloc, *at, "TooDeep"),
             ModuleFault::NotBuilt => line_whole(alloc, "NotBuilt"),
             ModuleFault::Memory => Err(AllocError),
         }

@@ -7,3 +7,4 @@ pub mod Steps
 pub mod Bodies
 pub mod Modules
 pub mod Unique
+mod SmallTrees

@@ -8,9 +8,11 @@ pub mod laws;
 mod nodes;
 mod open_names;
 pub mod small;
+pub mod sources;
 mod tags;
 #[cfg(test)]
 mod tests;
 
 pub use fault::SmallFault;
 pub use small::{Small, read_small};
+pub use sources::{parse, parse_interface};

@@ -1,5 +1,6 @@
 use Rattle.std.proofs.Common.{◌≡◌, ◌+◌, ◌*◌, ◌++◌, drop}
 use Rattle.grammar_engine.proofs.Grown.{Grows}
+use Rattle.grammar_engine.proofs.Allowing.{Ready}
 use Rattle.grammar_engine.proofs.Smaller.{left_over}
 use Rattle.grammar_engine.proofs.read.+read.Given as goal
 
@@ -28,6 +29,7 @@ abbrev pub invariant-read_part-loop-want : goal.invariant-read_part-loop-want
 invariant-read_part-loop-want l = record {
   grows : Grows l.fn.tokens.items l.fn.part l.fn.at l.fn.room (drop l.machine.at l.fn.tokens.items) l.machine.wants l.machine.tree.leaves l.machine.tree.marks;
   read : drop l.fn.at l.fn.tokens.items ≡ l.machine.tree.leaves ++ drop l.machine.at l.fn.tokens.items;
+  ready : Ready l.fn.tokens.items l.fn.part l.fn.at l.fn.room l.machine.at l.machine.far l.machine.wants;
 }
 
 abbrev pub decreases-read_part-loop-want : goal.decreases-read_part-loop-want

@@ -5,7 +5,7 @@ use Rattle.surface_tree.specs.declared.token.Token.{Token}
 use Rattle.ur_lexer.specs.Lexing.{Lexes, at_end}
 use Rattle.ur_lexer.specs.declared.fault.LexFault.TheVariants as lexer
 use Rattle.ur_parser.specs.Small.{IsSmall, Module}
-use Rattle.page_server.specs.Modules.{HasPage, lexical, unread}
+use Rattle.page_server.specs.Modules.{HasPage, lexical}
 use Rattle.page_server.proofs.module.page_of.Goals as goal
 
 pub returns-in_err-tokens-clause-complete : goal.returns-in_err-tokens-clause-complete
@@ -15,12 +15,12 @@ returns-in_err-tokens-clause-complete c trees (is, few, tokens, lexes, m, small,
     let p = err_from_is_err_and c.from_residual.result c.from_residual.ensures.1 in
     rw (p.1, p.2) (ap lexical told)
 
-pub returns-in_err-small-clause-complete : goal.returns-in_err-small-clause-complete
-returns-in_err-small-clause-complete c trees (is, few, tokens, lexes, m, small, page) =
+pub returns-in_err-page-clause-complete : goal.returns-in_err-page-clause-complete
+returns-in_err-page-clause-complete c trees (is, few, tokens, lexes, m, small, page) =
     let text : c.in-Ok.text.now ≡ c.args.bytes.now = c.in-Ok.ensures.cases.0 in
     let here : Lexes c.in-Ok.text.now tokens at_end = subst (λ (l : List ℕ). Lexes l tokens at_end) (sym text) lexes in
     let same : c.in_ok-tokens.tokens.items ≡ tokens = (c.texts_have_one_reading.ensures c.in-Ok.text.now c.in_ok-tokens.tokens.items tokens at_end at_end c.in_ok-tokens.ensures.tokens here).0 in
     let short : c.in_ok-tokens.tokens.end ≤ 65536 = rw (c.in_ok-tokens.ensures.end, text) few in
-    let told = c.in_err-small.ensures.read short m (subst (λ (l : List Token). IsSmall l m) (sym same) small) in
-    let p = err_from_is_err_and c.from_residual-in_err-small.result c.from_residual-in_err-small.ensures.1 in
-    rw (p.1, p.2) (ap unread told)
+    let told = c.in_err-page.ensures.complete short m (subst (λ (l : List Token). IsSmall l m) (sym same) small) in
+    let p = err_from_is_err_and c.from_residual-in_err-page.result c.from_residual-in_err-page.ensures.1 in
+    rw (p.1, p.2) told

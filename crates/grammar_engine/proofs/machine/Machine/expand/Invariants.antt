@@ -7,6 +7,7 @@ invariant-loop-left l = record {
   pushed : l.self.wants ≡ wants_of l.room l.tag (drop l.left l.parts) ++ l.fn.self.wants;
   tree : l.self.tree ≡ l.fn.self.tree;
   at : l.self.at ≡ l.fn.self.at;
+  far : l.self.far ≡ l.fn.self.far;
   within : l.left ≤ length l.parts;
 }
 

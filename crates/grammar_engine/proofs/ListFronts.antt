@@ -1,0 +1,295 @@
+-- An expression that begins with `[` begins with the empty list.
+use Rattle.std.proofs.Common.{◌≡◌, ℕ, List, [], ◌∷◌, ◌++◌, append_assoc, refl, ap, sym, ◌∙◌, subst, Bool, true, false, not, ◌||◌, Option, Some}
+use Rattle.std.proofs.Math.Logic.{inl, inr}
+use Rattle.surface_tree.specs.declared.kind.Kind.{Kind}
+use Rattle.surface_tree.specs.declared.kind.Kind.TheVariants as k
+use Rattle.surface_tree.specs.declared.token.Token.{Token}
+use Rattle.surface_tree.specs.declared.token.Content.{Content}
+use Rattle.surface_grammar.specs.declared.form.Form.{Form}
+use Rattle.surface_grammar.specs.declared.form.Form.TheVariants as f
+use Rattle.surface_grammar.specs.declared.part.Part.{Part}
+use Rattle.surface_grammar.specs.declared.part.Part.TheVariants.{Word, One, Many, Maybe}
+use Rattle.surface_grammar.specs.declared.rule.Rule.{Rule}
+use Rattle.surface_grammar.specs.Forms.{rules_of}
+use Rattle.surface_grammar.specs.Table.{body_of}
+use Rattle.surface_grammar.specs.Trees.{Node, branch, leaf, several, absent, present, Nodes, spell, spell_all, front, begins, IsIn, Fits, FitsAll}
+use Rattle.grammar_engine.proofs.Context.{headed, leafed}
+use Rattle.grammar_engine.proofs.Leading.{node_led}
+use Rattle.grammar_engine.proofs.Pieces.{Pieces, Step, gather}
+use Rattle.grammar_engine.proofs.Ranks.{every, every_in}
+use Rattle.grammar_engine.proofs.Scanned.{accepted}
+use Rattle.grammar_engine.proofs.Skimmed.{exact}
+
+abbrev is_list_front : Form → Bool
+is_list_front f.Exp = true
+is_list_front f.Pat = true
+is_list_front f.PatTerm = true
+is_list_front f.PatAtom = true
+is_list_front f.UpperPath = true
+is_list_front f.Term = true
+is_list_front f.Or = true
+is_list_front f.And = true
+is_list_front f.Compare = true
+is_list_front f.Cons = true
+is_list_front f.Join = true
+is_list_front f.Sum = true
+is_list_front f.Product = true
+is_list_front f.Sign = true
+is_list_front f.Cut = true
+is_list_front f.Apply = true
+is_list_front f.Atom = true
+is_list_front f.Operand = true
+is_list_front f.Primary = true
+is_list_front _ = false
+
+abbrev is_right : Kind → Bool
+is_right k.RightBracket = true
+is_right _ = false
+
+abbrev lists_at : Kind → Bool → Bool
+lists_at k.LeftBracket b = b
+lists_at _ b = true
+
+abbrev right_first : List Token → Bool
+right_first [] = false
+right_first (t ∷ ts) = is_right t.kind
+
+-- behind `[` at the front stands `]`
+abbrev lists : List Token → Bool
+lists [] = true
+lists (t ∷ ts) = lists_at t.kind (right_first ts)
+
+abbrev begins_right : List Part → Bool
+begins_right (Word w ∷ ps) = is_right w
+begins_right _ = false
+
+abbrev list_fronts : List Part → Bool
+list_fronts (Word w ∷ ps) = lists_at w (begins_right ps)
+list_fronts (One g ∷ ps) = is_list_front g
+list_fronts _ = false
+
+abbrev is_listed : Form → Rule → Bool
+is_listed g q = not (is_list_front g) || list_fronts (body_of q)
+
+-- computed
+listed : (g : Form) → every (is_listed g) (rules_of g) ≡ true
+listed f.KindTerm = refl
+listed f.KindArrow = refl
+listed f.KindAtom = refl
+listed f.KindTimes = refl
+listed f.KindMark = refl
+listed f.Con = refl
+listed f.ConForall = refl
+listed f.ConArrow = refl
+listed f.ConProduct = refl
+listed f.ConTimes = refl
+listed f.ConSum = refl
+listed f.ConConcat = refl
+listed f.ConApply = refl
+listed f.ConTerm = refl
+listed f.ConDollar = refl
+listed f.ConPrimary = refl
+listed f.ConIndex = refl
+listed f.ConAtom = refl
+listed f.HashName = refl
+listed f.ConParenRest = refl
+listed f.ConParenEnd = refl
+listed f.ConComma = refl
+listed f.ConFieldTypes = refl
+listed f.ConFieldMore = refl
+listed f.ConRowFields = refl
+listed f.ConFieldValue = refl
+listed f.ConRowMore = refl
+listed f.FieldName = refl
+listed f.Path = refl
+listed f.UpperDot = refl
+listed f.BracketOpen = refl
+listed f.BracketRest = refl
+listed f.BracketFields = refl
+listed f.BracketNameRest = refl
+listed f.BracketUpperRest = refl
+listed f.BracketHashRest = refl
+listed f.GuardSides = refl
+listed f.NameSides = refl
+listed f.PathSides = refl
+listed f.IntSides = refl
+listed f.Pat = refl
+listed f.PatCons = refl
+listed f.PatTerm = refl
+listed f.PatAtom = refl
+listed f.UpperPath = refl
+listed f.DotUpper = refl
+listed f.PatParenRest = refl
+listed f.PatParenEnd = refl
+listed f.PatComma = refl
+listed f.PatRecordRest = refl
+listed f.PatFieldMore = refl
+listed f.PatFieldNext = refl
+listed f.Arg = refl
+listed f.ArgBracketRest = refl
+listed f.ArgLowerRest = refl
+listed f.Exp = refl
+listed f.ExpBindRest = refl
+listed f.ExpThen = refl
+listed f.Term = refl
+listed f.CaseBar = refl
+listed f.CaseMore = refl
+listed f.Body = refl
+listed f.Or = refl
+listed f.OrMore = refl
+listed f.And = refl
+listed f.AndMore = refl
+listed f.Compare = refl
+listed f.CompareMore = refl
+listed f.Cons = refl
+listed f.ConsMore = refl
+listed f.Join = refl
+listed f.JoinMore = refl
+listed f.Sum = refl
+listed f.SumMore = refl
+listed f.Product = refl
+listed f.ProductMore = refl
+listed f.Sign = refl
+listed f.Cut = refl
+listed f.CutMore = refl
+listed f.Apply = refl
+listed f.Argument = refl
+listed f.ArgumentRest = refl
+listed f.Atom = refl
+listed f.Operand = refl
+listed f.Dot = refl
+listed f.Primary = refl
+listed f.AnyName = refl
+listed f.ParenRest = refl
+listed f.ParenEnd = refl
+listed f.ExpComma = refl
+listed f.ExpFields = refl
+listed f.ExpFieldMore = refl
+listed f.Node = refl
+listed f.NodeBraceRest = refl
+listed f.Splice = refl
+listed f.TagName = refl
+listed f.ElementEnd = refl
+listed f.Attribute = refl
+listed f.AttributeValue = refl
+listed f.Decl = refl
+listed f.LetDecl = refl
+listed f.ValRest = refl
+listed f.RecMore = refl
+listed f.FunMore = refl
+listed f.TypeMark = refl
+listed f.Parameter = refl
+listed f.Constructor = refl
+listed f.ConstructorOf = refl
+listed f.ConstructorMore = refl
+listed f.KeyMark = refl
+listed f.KeyColumns = refl
+listed f.ColumnList = refl
+listed f.ColumnMore = refl
+listed f.InterfaceItem = refl
+listed f.Sql = refl
+listed f.Where = refl
+listed f.OrderBy = refl
+listed f.Limit = refl
+listed f.Offset = refl
+listed f.ValueList = refl
+listed f.ValueMore = refl
+listed f.Assignment = refl
+listed f.AssignmentMore = refl
+listed f.Selection = refl
+listed f.ItemMore = refl
+listed f.Item = refl
+listed f.ItemUpperRest = refl
+listed f.ItemDot = refl
+listed f.ItemBracesRow = refl
+listed f.ItemNamed = refl
+listed f.Source = refl
+listed f.SourceMore = refl
+listed f.AsMark = refl
+listed f.TableRef = refl
+listed f.TableBraces = refl
+listed f.TableBracesExp = refl
+listed f.Order = refl
+listed f.Direction = refl
+listed f.OrderMore = refl
+listed f.Count = refl
+listed f.SqlOr = refl
+listed f.SqlOrMore = refl
+listed f.SqlAnd = refl
+listed f.SqlAndMore = refl
+listed f.SqlNot = refl
+listed f.SqlCompare = refl
+listed f.SqlCompareMore = refl
+listed f.SqlSum = refl
+listed f.SqlSumMore = refl
+listed f.SqlProduct = refl
+listed f.SqlProductMore = refl
+listed f.SqlTerm = refl
+listed f.SqlBraceRest = refl
+
+abbrev Listed : Form → List Token → Type 0
+Listed g ts = is_list_front g ≡ true → (rest : List Token) → lists (ts ++ rest) ≡ true
+
+lists_more : (x : Kind) (b c : Bool) → lists_at x b ≡ true → (b ≡ true → c ≡ true) → lists_at x c ≡ true
+lists_more k.LeftBracket b c h m = m h
+lists_more x b c h m = refl
+
+right_more : (ps : List Part) (l : List Token) → Pieces Listed ps l → begins_right ps ≡ true → (rest : List Token) → right_first (l ++ rest) ≡ true
+right_more [] l p h rest = cc
+right_more (Word w ∷ ps) l (t, us, is, ok, more) h rest = ap (λ z. right_first (z ++ rest)) is ∙ accepted is_right w t.kind refl refl refl ok ∙ h
+right_more (One g ∷ ps) l p h rest = cc
+right_more (Many g ∷ ps) l p h rest = cc
+right_more (Maybe g ∷ ps) l p h rest = cc
+
+list_pieces : (ps : List Part) (l : List Token) → Pieces Listed ps l → list_fronts ps ≡ true → (rest : List Token) → lists (l ++ rest) ≡ true
+list_pieces [] l p h rest = cc
+list_pieces (Word w ∷ ps) l (t, us, is, ok, more) h rest =
+    ap (λ z. lists (z ++ rest)) is ∙ lists_more t.kind (begins_right ps) (right_first (us ++ rest)) (accepted (λ z. lists_at z (begins_right ps)) w t.kind refl refl refl ok ∙ h) (λ i. right_more ps us more i rest)
+list_pieces (One g ∷ ps) l (ts, us, is, q, more) h rest = ap (λ z. lists (z ++ rest)) is ∙ ap lists (append_assoc ts us rest) ∙ q h (us ++ rest)
+list_pieces (Many g ∷ ps) l p h rest = cc
+list_pieces (Maybe g ∷ ps) l p h rest = cc
+
+unless : (a b : Bool) → (not a || b) ≡ true → a ≡ true → b ≡ true
+unless true b h e = h
+unless false b h e = cc
+
+list_step : Step Listed
+list_step g q ts i p = λ e. list_pieces (body_of q) ts p (unless (is_list_front g) (list_fronts (body_of q)) (every_in (is_listed g) (rules_of g) q (listed g) i) e)
+
+right_is : (x : Kind) → is_right x ≡ true → x ≡ k.RightBracket
+right_is k.RightBracket h = refl
+right_is x h = cc
+
+splice_rule : {A : Type 0} (q : Rule) (ms ns : Nodes) (room space : ℕ) (name other : Content) (x y : Option Kind) (after behind : List Token) → IsIn q (rules_of f.Splice) → FitsAll room name ms (body_of q) x
+    → FitsAll space other ns (One f.Exp ∷ Word k.RightBrace ∷ []) y → spell_all ms ++ after ≡ spell_all ns ++ behind → A
+splice_rule q ms ns room space name other x y after behind (inl e) fit fits is =
+    let a = headed room name ms (Word k.LeftBracket) (One f.Exp ∷ Word k.RightBracket ∷ []) x (subst (λ z. FitsAll room name ms (body_of z) x) e fit) in
+    let l = leafed room name a.head k.LeftBracket (front (spell_all a.tail) x) a.fits in
+    let b = headed room name a.tail (One f.Exp) (Word k.RightBracket ∷ []) x a.others in
+    let m = node_led b.head f.Exp room name (front (spell_all b.tail) x) b.fits in
+    let opens : l.token.kind ≡ k.LeftBracket = exact k.LeftBracket l.token.kind refl l.ok in
+    let text : spell_all ms ++ after ≡ l.token ∷ (m.token ∷ ((m.rest ++ spell_all b.tail) ++ after)) =
+    ap (λ z. z ++ after) (a.spelled ∙ ap (λ z. z ++ spell_all a.tail) l.spelled ∙ ap (λ z. l.token ∷ z) (b.spelled ∙ ap (λ z. z ++ spell_all b.tail) m.is)) in
+    let d = headed space other ns (One f.Exp) (Word k.RightBrace ∷ []) y fits in
+    let found : lists (spell d.head ++ (spell_all d.tail ++ behind)) ≡ true = gather Listed list_step d.head f.Exp space other (front (spell_all d.tail) y) d.fits refl (spell_all d.tail ++ behind) in
+    let here : lists (l.token ∷ (m.token ∷ ((m.rest ++ spell_all b.tail) ++ after))) ≡ true = ap lists (sym text ∙ is ∙ ap (λ z. z ++ behind) d.spelled ∙ append_assoc (spell d.head) (spell_all d.tail) behind) ∙ found in
+    let right : is_right m.token.kind ≡ true = sym (ap (λ z. lists_at z (is_right m.token.kind)) opens) ∙ here in
+    let wrong : begins f.Exp (Some k.RightBracket) ≡ true = ap (λ z. begins f.Exp (Some z)) (sym (right_is m.token.kind right)) ∙ m.passes in
+    cc
+splice_rule q ms ns room space name other x y after behind (inr e) fit fits is = absurd e
+
+splice_node : {A : Type 0} (n : Node) (ns : Nodes) (room space : ℕ) (name other : Content) (x y : Option Kind) (after behind : List Token) → Fits room name n (One f.Splice) x
+    → FitsAll space other ns (One f.Exp ∷ Word k.RightBrace ∷ []) y → spell n ++ after ≡ spell_all ns ++ behind → A
+splice_node (leaf t) ns room space name other x y after behind fit fits is = absurd fit
+splice_node (several ms) ns room space name other x y after behind fit fits is = absurd fit
+splice_node absent ns room space name other x y after behind fit fits is = absurd fit
+splice_node (present n) ns room space name other x y after behind fit fits is = absurd fit
+splice_node (branch q ms) ns room space name other x y after behind fit fits is = splice_rule q ms ns fit.0 space fit.1 other x y after behind fit.2.rule fit.3 fits is
+
+-- a spliced value is no expression
+pub splices_apart : {A : Type 0} (ms ns : Nodes) (room space : ℕ) (name other : Content) (x y : Option Kind) (after behind : List Token) → FitsAll room name ms (One f.Splice ∷ Word k.RightBrace ∷ []) x
+    → FitsAll space other ns (One f.Exp ∷ Word k.RightBrace ∷ []) y → spell_all ms ++ after ≡ spell_all ns ++ behind → A
+splices_apart ms ns room space name other x y after behind fit fits is =
+    let a = headed room name ms (One f.Splice) (Word k.RightBrace ∷ []) x fit in
+    splice_node a.head ns room space name other (front (spell_all a.tail) x) y (spell_all a.tail ++ after) behind a.fits fits
+    (sym (append_assoc (spell a.head) (spell_all a.tail) after) ∙ ap (λ z. z ++ after) (sym a.spelled) ∙ is)

@@ -1,0 +1,3 @@
+pub mod Holes
+pub mod Progress
+pub mod Readers

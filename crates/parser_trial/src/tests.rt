@@ -1,0 +1,3 @@
+//! Sources that are read, and readers that read as the parser does.
+mod readers;
+mod sources;
