@@ -1,9 +1,9 @@
 -- Actions and requests within more steps.
-use Rattle.std.proofs.Common.{◌≡◌, ℕ, zero, suc, ◌+◌, ◌<◌, ◌≤◌, List, [], ◌∷◌, ◌++◌, Option, Some, None, refl, subst, arith}
+use Rattle.std.proofs.Common.{◌≡◌, ℕ, zero, suc, ◌+◌, ◌≤◌, List, [], ◌∷◌, ◌++◌, subst, arith}
 use Rattle.std.specs.Prelude.{slice_get, codes}
 use Rattle.xml_trees.specs.Trees.{Trees}
 use Rattle.core_terms.specs.Trees.{Pg}
-use Rattle.core_terms.specs.Values.{V, of_fields, no_slots, Act, gives, and_then, performs, Out, done, fault, more, deep, wrong, then_do, spend, text_steps, walked}
+use Rattle.core_terms.specs.Values.{V, of_fields, no_slots, Act, gives, and_then, performs, Out, done, then_do, text_steps, walked}
 use Rattle.core_terms.specs.Applied.{Rn, Next, to_value, as_action, as_page}
 use Rattle.core_terms.specs.Meaning.{calls, top_value}
 use Rattle.core_terms.specs.Actions.{State, Running, performed, acted, run_on, nothing_done}

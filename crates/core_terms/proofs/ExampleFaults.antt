@@ -90,8 +90,8 @@ more_fields_told =
 -- #A and #A
 not_separated : Separated [] (name a_name) (name a_name) → ⊥
 not_separated (names_differ d) = d refl
-not_separated (by_guard l c h k) = absurd (omega (arith, c.1))
-not_separated (by_guard_turned l c h k) = absurd (omega (arith, c.1))
+not_separated (by_guard c h k) = absurd (omega (arith, c.1))
+not_separated (by_guard_turned c h k) = absurd (omega (arith, c.1))
 
 concat_at : {G : Sc} {p : Place} {a : Bool} {e d : Ex} {f : Fault} → Own no_kind_faults G (node p a (concat e d)) f → (at f ≡ p) ⊎ ((at f ≡ place_of e) ⊎ (at f ≡ place_of d))
 concat_at (left_no_record h k) = inr (inl (form_at k))

@@ -23,7 +23,7 @@ variable_covers t = record { small = nothing_large t; taken = λ s h. refl }
 
 -- the guard
 assumed : (t : Cn) → Separated (with_two_rows t).kinds.guards (var 1) (var 0)
-assumed t = by_guard refl (0, omega arith, refl) (has_piece same (0, omega arith, refl)) (has_piece same (0, omega arith, refl))
+assumed t = by_guard (0, omega arith, refl) (has_piece same (0, omega arith, refl)) (has_piece same (0, omega arith, refl))
 
 rows_apart : (t : Cn) → Apart (with_two_rows t).kinds.guards (var 1) (var 0)
 rows_apart t =
@@ -47,4 +47,4 @@ one_map : Equal (maps_twice (var 0)) (maps_once (var 0))
 one_map = in_record (step map_map (in_app (in_app same (in_lambda (step beta (in_app same beta)))) same))
 
 pub map_of_map_typed : MapOfMapIsTyped
-map_of_map_typed = of_fn_con (of_fn (of_record options_kinded) (of_binds (of_record options_kinded)) (variable_covers (maps_twice (var 0))) (of_ascribed (by_equal (of_bound refl) one_map once_kinded)))
+map_of_map_typed = of_fn_con (of_fn (of_record options_kinded) (of_binds (of_record options_kinded)) (variable_covers (maps_twice (var 0))) (of_ascribed once_kinded (by_equal (of_bound refl) one_map)))

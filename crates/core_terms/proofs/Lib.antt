@@ -10,4 +10,13 @@ pub mod ExampleFaults
 pub mod ExampleCover
 pub mod Stripping
 pub mod Answering
+pub mod Differing
 pub mod OnePage
+pub mod Normal
+pub mod Matched
+pub mod Founded
+pub mod Moving
+pub mod KindsStay
+pub mod LargerScopes
+pub mod Elements
+pub mod SiteRoutes

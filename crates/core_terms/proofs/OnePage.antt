@@ -1,9 +1,9 @@
 -- The program of one page: that it is accepted, and its answer.
-use Rattle.std.proofs.Common.{◌≡◌, ℕ, zero, suc, ◌<◌, ◌≤◌, Bool, true, false, List, [], ◌∷◌, ◌++◌, length, Option, Some, None, refl, arith}
-use Rattle.std.specs.Prelude.{codes, ◌≢◌, Contains}
+use Rattle.std.proofs.Common.{◌≡◌, ℕ, zero, suc, ◌<◌, true, false, List, [], ◌∷◌, Some, None, refl, subst, arith}
+use Rattle.std.specs.Prelude.{codes, Contains}
 use Rattle.std.specs.List.{All}
 use Rattle.std.proofs.lemmas.List.Elements.{All-from_recursion}
-use Rattle.con_terms.specs.Trees.{types, units, row_of, Cn, var, basic, app, record_of, name, row, no_pairs, pair}
+use Rattle.con_terms.specs.Trees.{types, units, row_of, Cn, var, basic, record_of, name, no_pairs, pair}
 use Rattle.con_terms.specs.Equal.{same}
 use Rattle.con_terms.specs.Kinded.{Kinded, of_basic, of_app, of_row, of_name, of_unit, no_fields, a_field}
 use Rattle.table_rows.specs.Wires.{no_wires}
@@ -15,16 +15,17 @@ use Rattle.xml_trees.specs.Trees.{Nothing, Element}
 use Rattle.xml_trees.specs.Grammar.{NoAttributes, NoMarkup, Closed}
 use Rattle.xml_trees.specs.Markup.{Empty}
 use Rattle.core_terms.specs.Names.{html_context}
-use Rattle.core_terms.specs.Types.{no_types, type_row, at_types, page_type, transaction_of, unit_row}
+use Rattle.core_terms.specs.Types.{no_types, type_row, at_types, page_type, unit_row}
 use Rattle.core_terms.specs.Trees.{Cd, Dt}
 use Rattle.core_terms.specs.Datatypes.{constructor_of}
 use Rattle.core_terms.specs.Scopes.{Sc}
-use Rattle.core_terms.specs.Typed.{Typed, of_basis, of_call, of_element, to_con, to_term, to_nothing, of_holding, no_attribute, no_node}
-use Rattle.core_terms.specs.Declarations.{DeclsTyped, no_decls, a_val, scope_with, Distinct}
-use Rattle.core_terms.specs.Entries.{IsEntry, by_export, by_link, by_action, Shaped, no_argument, EntriesFrom, no_values, get_alone, RoutesOf, DatatypesShaped, no_datatype, carried, CasesShaped, no_case, a_case, holds_nothing, holds_one, of_parameter, of_datatype, of_fields, AllShaped, none_shaped, one_shaped, no_field_shaped, field_shaped, all_datatypes}
-use Rattle.core_terms.specs.Accepts.{Accepts, Formed, EntriesDiffer}
-use Rattle.core_terms.specs.Requests.{Answers, Form, by_get, Arguments, no_more, Ends, with_page, ShortEnough}
-use Rattle.core_terms.specs.ExampleProgram.{one_page, get_main, OnePageIsAccepted, OnePageIsAnswered}
+use Rattle.core_terms.specs.Typed.{of_basis, of_call, of_element, to_con, to_term, to_nothing, of_holding, no_attribute, no_node}
+use Rattle.core_terms.specs.Declarations.{Value, values, no_decls, a_val, scope_with, Distinct}
+use Rattle.core_terms.specs.Entries.{IsEntry, by_export, by_link, by_action, Shaped, no_argument, no_values, get_alone, RoutesOf, no_datatype, carried, CasesShaped, no_case, a_case, holds_nothing, holds_one, of_parameter, of_datatype, of_fields, none_shaped, one_shaped, no_field_shaped, field_shaped, all_datatypes}
+use Rattle.core_terms.specs.Accepts.{TextsDiffer, type_symbols, EntriesDiffer}
+use Rattle.core_terms.proofs.Differing.{all_plain_by_test, differ_by_test, distinct_by_test}
+use Rattle.core_terms.specs.Requests.{by_get, no_more, with_page, ShortEnough}
+use Rattle.core_terms.specs.ExampleProgram.{one_page, OnePageIsAccepted, OnePageIsAnswered}
 
 none_in : {X : Type 0} {x : X} → Contains [] x → ⊥
 none_in c = absurd (omega (arith, c.1))
@@ -41,14 +42,15 @@ html_kinded = of_row (a_field of_name of_unit no_fields) ((λ k d h. absurd (ome
 page_kinded : Kinded top_level.kinds page_type types
 page_kinded = of_app (of_app (of_app (of_basic refl) html_kinded) no_types_kinded) no_types_kinded
 
-distinct : Distinct (3 ∷ 4 ∷ 5 ∷ [])
-distinct = (
-  All-from_recursion {X = ℕ} (λ y. 3 ≢ y) (4 ∷ 5 ∷ []) ((λ e. omega (arith, e)), ((λ e. omega (arith, e)), tt)),
-  (
-    All-from_recursion {X = ℕ} (λ y. 4 ≢ y) (5 ∷ []) ((λ e. omega (arith, e)), tt),
-    (All-from_recursion {X = ℕ} (λ y. 5 ≢ y) [] tt, tt),
-  ),
-)
+names_differ : TextsDiffer one_page.names
+names_differ = differ_by_test one_page.names refl
+
+located : (v : Value) → Contains (values one_page.decls) v → (v.place.file < 1) × (v.name < 27)
+located v (zero, h, e) = subst (λ (x : Value). (x.place.file < 1) × (x.name < 27)) e (omega arith, omega arith)
+located v (suc k, h, e) = absurd (omega (arith, h))
+
+distinct : Distinct (type_symbols one_page)
+distinct = distinct_by_test (type_symbols one_page) refl
 
 exported : All (λ i. i < 1) (0 ∷ [])
 exported = All-from_recursion (λ i. i < 1) (0 ∷ []) (omega arith, tt)
@@ -72,7 +74,7 @@ differ i j false e d h g n = absurd (n (same_number i j (one_value i e h) (one_v
 
 pub accepted : OnePageIsAccepted
 accepted = record {
-  formed = record { texts = refl; symbols = distinct; exported = exported };
+  formed = record { texts = refl; differ = names_differ; plain = all_plain_by_test one_page.names refl; plain_modules = all_plain_by_test one_page.modules refl; located = located; symbols = distinct; exported = exported };
   typed = a_val (of_app (of_basic refl) page_kinded)
       (of_call of_basis (to_con page_kinded (to_term (of_element (of_holding false refl tt same no_attribute (no_node no_types_kinded))) to_nothing))) no_decls;
   entries = differ;

@@ -1,16 +1,31 @@
 -- Which programs are accepted.
-use Rattle.std.specs.Prelude.{◌≡◌, ◌≢◌, ℕ, ◌<◌, Bool, [], map, length, take}
-use Rattle.std.specs.List.{All}
+use Rattle.std.specs.Prelude.{◌≡◌, ◌≢◌, ℕ, ◌<◌, Bool, List, [], ◌++◌, map, length, take, Some, slice_get}
+use Rattle.std.specs.List.{All, AllByRecursion, Contains}
+use Rattle.link_router.specs.RouteLaws.{IsPlain}
 use Rattle.link_router.specs.Calls.{Ent}
 use Rattle.core_terms.specs.Names.{basis_texts}
-use Rattle.core_terms.specs.Trees.{Dt, Pg}
-use Rattle.core_terms.specs.Declarations.{DeclsTyped, Distinct, values}
+use Rattle.con_terms.specs.Trees.{Kd}
+use Rattle.core_terms.specs.Trees.{Pg}
+use Rattle.core_terms.specs.Scopes.{basis_kinds, datatype_kinds, folder_kinds}
+use Rattle.core_terms.specs.Declarations.{DeclsTyped, Distinct, Value, values}
 use Rattle.core_terms.specs.Entries.{IsEntry, all_datatypes}
 
--- What a program is built as, by whoever builds it: its symbols begin with those of the basis, no two datatypes have one symbol, and what it exports is there.
+-- the symbols of all types: those of the basis, of datatypes and of folders
+abbrev pub type_symbols : Pg → List ℕ
+type_symbols p = map (λ (b : ℕ × Kd). b.0) (basis_kinds ++ datatype_kinds (all_datatypes p) ++ folder_kinds p.folders)
+
+-- no two symbols have one text
+abbrev pub TextsDiffer : List (List ℕ) → Type 0
+TextsDiffer names = (i j : ℕ) (t : List ℕ) → slice_get names i ≡ Some t → slice_get names j ≡ Some t → i ≡ j
+
+-- What a program is built as, by whoever builds it: its symbols begin with those of the basis and have different texts, which like modules' names have neither / nor %; no two types have one symbol; each value stands in a module and has a name; and what it exports is there.
 pub record Formed (p : Pg) : Type 0 where
   pub texts : take (length basis_texts) p.names ≡ basis_texts
-  pub symbols : Distinct (map (λ (d : Dt). d.symbol) (all_datatypes p))
+  pub differ : TextsDiffer p.names
+  pub plain : AllByRecursion IsPlain p.names
+  pub plain_modules : AllByRecursion IsPlain p.modules
+  pub located : (v : Value) → Contains (values p.decls) v → (v.place.file < length p.modules) × (v.name < length p.names)
+  pub symbols : Distinct (type_symbols p)
   pub exported : All (λ i. i < length (values p.decls)) p.exports
 
 -- no two entries that are read by one method have one name

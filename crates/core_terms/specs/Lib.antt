@@ -37,3 +37,6 @@ pub mod StripLaw
 pub mod TypingLaws
 pub mod RequestLaws
 pub mod ExampleProgram
+pub mod KindLaws
+pub mod Lists
+pub mod SiteLaws

@@ -23,7 +23,7 @@ use Rattle.core_terms.specs.declared.markup.TagName.{TagName}
 use Rattle.core_terms.specs.declared.markup.AttrName.{AttrName}
 use Rattle.core_terms.specs.declared.markup.AttrName.TheVariants as attr
 use Rattle.core_terms.specs.Trees.{Pt, Ex, node, bound, top, foreign, fold_over, built, fn, fn_guard, call, let_in, case_of, ascribed, fields_of, select, concat, without, without_row, folder, element, Its, with_term, with_con, with_guard, Nms, named, Los, local_val, local_rec, Brs, branch, Fds, field, El, tagged, Ats, attribute, Xs, a_node, Cd, Dt}
-use Rattle.core_terms.specs.Types.{type_row, no_types, one_field, unit_row, xml_of}
+use Rattle.core_terms.specs.Types.{string_type, type_row, no_types, one_field, unit_row, xml_of}
 use Rattle.core_terms.specs.Datatypes.{datatype_of}
 use Rattle.core_terms.specs.Scopes.{Sc, under, normal_of}
 use Rattle.core_terms.specs.Cover.{Misses, TooLargeIn, patterns_depth, Shp}
@@ -163,9 +163,9 @@ pub data NodeFault : Sc → Cn → Cn → Xs → Fault → Type 0 where
   later_node : {G : Sc} {c u t m v b : Cn} {e : Ex} {xs : Xs} {f : Fault} → Found G e t → normal_of t ≡ Some (xml_of m v b) → NodeFault G c (cat u b) xs f → NodeFault G c u (a_node e xs) f
 
 -- the first node that isn't text
-pub data NotWords : Xs → Place → Type 0 where
-  this_node : {e : Ex} {xs : Xs} → (IsWords e → ⊥) → NotWords (a_node e xs) (place_of e)
-  later_words : {e : Ex} {xs : Xs} {p : Place} → IsWords e → NotWords xs p → NotWords (a_node e xs) p
+pub data NotWords : Xs → Ex → Type 0 where
+  this_node : {e : Ex} {xs : Xs} → (IsWords e → ⊥) → NotWords (a_node e xs) e
+  later_words : {d e : Ex} {xs : Xs} → IsWords d → NotWords xs e → NotWords (a_node d xs) e
 
 -- an element of a tag where it doesn't stand, with nodes that it doesn't hold, or with a field's name on another tag than an input's
 pub data ElementFault (K : KindFaults) : Sc → Place → El → Fault → Type 0 where
@@ -184,7 +184,7 @@ pub data ElementFault (K : KindFaults) : Sc → Place → El → Fault → Type 
   holds_nothing : {G : Sc} {p : Place} {g : TagName} {n : Option Cn} {c u t : Cn} {as' : Ats} {e : Ex} {xs : Xs} → sort_of g ≡ empty → Found G e t → ElementFault K G p (tagged g n c u as' (a_node e xs)) (mismatch (place_of e) unit_con t)
   input_holds_nothing : {G : Sc} {p : Place} {g : TagName} {n : Option Cn} {c u t v : Cn} {as' : Ats} {e : Ex} {xs : Xs} → sort_of g ≡ an_input v → Found G e t → ElementFault K G p (tagged g n c u as' (a_node e xs)) (mismatch (place_of e) unit_con t)
   button_holds_nothing : {G : Sc} {p : Place} {g : TagName} {n : Option Cn} {c u t : Cn} {as' : Ats} {e : Ex} {xs : Xs} → sort_of g ≡ a_button → Found G e t → ElementFault K G p (tagged g n c u as' (a_node e xs)) (mismatch (place_of e) unit_con t)
-  no_words : {G : Sc} {p q : Place} {g : TagName} {n : Option Cn} {c u : Cn} {as' : Ats} {xs : Xs} → sort_of g ≡ of_words → NotWords xs q → ElementFault K G p (tagged g n c u as' xs) (mismatch q unit_con unit_con)
+  no_words : {G : Sc} {p : Place} {g : TagName} {n : Option Cn} {c u t : Cn} {as' : Ats} {e : Ex} {xs : Xs} → sort_of g ≡ of_words → NotWords xs e → Found G e t → ElementFault K G p (tagged g n c u as' xs) (mismatch (place_of e) string_type t)
   in_nodes : {G : Sc} {p : Place} {g : TagName} {n : Option Cn} {w : Where} (o : Bool) {c u : Cn} {as' : Ats} {xs : Xs} {f : Fault} → sort_of g ≡ holding w → MayBeInForm (stands g) o → Alike (context_row (stands g) o) c → NodeFault G (context_row w o) u xs f → ElementFault K G p (tagged g n c u as' xs) f
   in_title : {G : Sc} {p : Place} {g : TagName} {n : Option Cn} (o : Bool) {c u : Cn} {as' : Ats} {xs : Xs} {f : Fault} → sort_of g ≡ of_words → Alike (context_row (stands g) o) c → NodeFault G (context_row (stands g) o) u xs f → ElementFault K G p (tagged g n c u as' xs) f
   in_form_nodes : {G : Sc} {p : Place} {g : TagName} {n : Option Cn} {c u : Cn} {as' : Ats} {xs : Xs} {f : Fault} → sort_of g ≡ a_form → NodeFault G (context_row in_body true) no_types xs f → ElementFault K G p (tagged g n c u as' xs) f

@@ -1,5 +1,5 @@
 -- What a type in normal form tells of its values.
-use Rattle.std.specs.Prelude.{ℕ, ◌==◌, List, [], ◌∷◌, ◌++◌, Some, None, if◌then◌else◌}
+use Rattle.std.specs.Prelude.{ℕ, ◌==◌, List, [], ◌∷◌, ◌++◌, length, Some, None, if◌then◌else◌}
 use Rattle.con_terms.specs.Trees.{Cn, basic, record_of, app, name, row, cat, Prs, no_pairs, pair}
 use Rattle.core_terms.specs.Names.{int_name, string_name}
 use Rattle.core_terms.specs.Trees.{Dt}
@@ -26,12 +26,16 @@ literal_fields (row k ps) = literal_pairs ps
 literal_fields (cat a b) = literal_fields a ++ literal_fields b
 literal_fields _ = []
 
+-- a datatype at arguments, where it has as many as it takes
+abbrev pub seen_data : Dt → List Cn → Seen
+seen_data d args = if length args == d.parameters then a_datatype d args else nothing_more
+
 -- a basic type at arguments
 abbrev pub seen_basic : List Dt → ℕ → List Cn → Seen
 seen_basic ds s args =
     if s == int_name then a_number else
     if s == string_name then a_text else
-    elim (datatype_of ds s) [ None ↦ nothing_more | Some d ↦ a_datatype d args ]
+    elim (datatype_of ds s) [ None ↦ nothing_more | Some d ↦ seen_data d args ]
 
 -- the head of an application, and what it is applied to
 abbrev pub seen_at : List Dt → Cn → List Cn → Seen

@@ -80,8 +80,8 @@ NodesAreWords (a_node e xs) = IsWords e × NodesAreWords xs
 
 mutual
   pub data Typed : Sc → Ex → Cn → Type 0 where
-    -- a type may be replaced by an equal one
-    by_equal : {G : Sc} {e : Ex} {t u : Cn} → Typed G e t → Equal t u → Kinded G.kinds u types → Typed G e u
+    -- a type may be replaced by an equal one. Kinds are asked of what is written; a type that rules put together or that reduction leaves isn't asked for its kind again
+    by_equal : {G : Sc} {e : Ex} {t u : Cn} → Typed G e t → Equal t u → Typed G e u
     of_bound : {G : Sc} {p : Place} {a : Bool} {i : ℕ} {t : Cn} → slice_get G.locals i ≡ Some t → Typed G (node p a (bound i)) t
     of_top : {G : Sc} {p : Place} {a : Bool} {i : ℕ} {t : Cn} → slice_get G.tops i ≡ Some t → Typed G (node p a (top i)) t
     of_foreign : {G : Sc} {p : Place} {a : Bool} {i : ℕ} → i < G.effects → Typed G (node p a (foreign i)) (arrow string_type (transaction_of unit_type))
@@ -97,13 +97,13 @@ mutual
     of_call : {G : Sc} {p : Place} {a : Bool} {f : Ex} {is : Its} {t u : Cn} → Typed G f t → Applies G t is u → Typed G (node p a (call f is)) u
     of_let : {G H : Sc} {p : Place} {a : Bool} {ls : Los} {e : Ex} {t : Cn} → Declares G ls H → Typed H e t → Typed G (node p a (let_in ls e)) t
     of_case : {G : Sc} {p q : Place} {a : Bool} {e b : Ex} {r : Pt} {bs : Brs} {t u : Cn} {ts : List Cn} → Typed G e t → PatTyped G r t ts → Typed (under ts G) b u → EachTyped G t bs u → Covers G.datatypes (r ∷ branch_patterns bs) t → Typed G (node p a (case_of e q r b bs)) u
-    of_ascribed : {G : Sc} {p : Place} {a : Bool} {e : Ex} {t : Cn} → Typed G e t → Typed G (node p a (ascribed e t)) t
+    of_ascribed : {G : Sc} {p : Place} {a : Bool} {e : Ex} {t : Cn} → Kinded G.kinds t types → Typed G e t → Typed G (node p a (ascribed e t)) t
     -- records
     of_fields : {G : Sc} {p : Place} {a : Bool} {fs : Fds} {ps : Prs} → FieldsTyped G fs ps → Kinded G.kinds (type_row ps) (row_of types) → Typed G (node p a (fields_of fs)) (record_of (type_row ps))
-    of_select : {G : Sc} {p : Place} {a : Bool} {e : Ex} {c t r : Cn} → Typed G e (record_of (cat (one_field c t) r)) → Typed G (node p a (select e c)) t
+    of_select : {G : Sc} {p : Place} {a : Bool} {e : Ex} {c t r : Cn} → Kinded G.kinds c names → Typed G e (record_of (cat (one_field c t) r)) → Typed G (node p a (select e c)) t
     of_concat : {G : Sc} {p : Place} {a : Bool} {e d : Ex} {r s : Cn} → Typed G e (record_of r) → Typed G d (record_of s) → Apart G.kinds.guards r s → Typed G (node p a (concat e d)) (record_of (cat r s))
-    of_without : {G : Sc} {p : Place} {a : Bool} {e : Ex} {c t r : Cn} → Typed G e (record_of (cat (one_field c t) r)) → Typed G (node p a (without e c)) (record_of r)
-    of_without_row : {G : Sc} {p : Place} {a : Bool} {e : Ex} {c r : Cn} → Typed G e (record_of (cat c r)) → Typed G (node p a (without_row e c)) (record_of r)
+    of_without : {G : Sc} {p : Place} {a : Bool} {e : Ex} {c t r : Cn} → Kinded G.kinds c names → Typed G e (record_of (cat (one_field c t) r)) → Typed G (node p a (without e c)) (record_of r)
+    of_without_row : {G : Sc} {p : Place} {a : Bool} {e : Ex} {c r : Cn} → Kinded G.kinds c (row_of types) → Typed G e (record_of (cat c r)) → Typed G (node p a (without_row e c)) (record_of r)
     -- the folder of a row that the listed fields make
     of_folder : {G : Sc} {p : Place} {a : Bool} {k : Kd} {s : ℕ} {ps : Prs} → Contains G.folders (k, s) → Kinded G.kinds (row k ps) (row_of k) → Typed G (node p a (folder k ps)) (app (basic s) (row k ps))
     of_element : {G : Sc} {p : Place} {a : Bool} {m : El} {t : Cn} → ElementTyped G m t → Typed G (node p a (element m)) t
@@ -111,7 +111,7 @@ mutual
   -- from a function's type, through what it is applied to, to the type of the result
   pub data Applies : Sc → Cn → Its → Cn → Type 0 where
     to_nothing : {G : Sc} {t : Cn} → Applies G t no_items t
-    to_equal : {G : Sc} {t u v : Cn} {is : Its} → Equal t u → Kinded G.kinds u types → Applies G u is v → Applies G t is v
+    to_equal : {G : Sc} {t u v : Cn} {is : Its} → Equal t u → Applies G u is v → Applies G t is v
     to_term : {G : Sc} {t u v : Cn} {e : Ex} {is : Its} → Typed G e t → Applies G u is v → Applies G (arrow t u) (with_term e is) v
     to_con : {G : Sc} {p : Place} {a i : Bool} {k : Kd} {c t v : Cn} {is : Its} → Kinded G.kinds c k → Applies G (subst t c) is v → Applies G (poly i k t) (with_con p a c is) v
     to_guard : {G : Sc} {p : Place} {a : Bool} {c d t v : Cn} {is : Its} → Apart G.kinds.guards c d → Applies G t is v → Applies G (guarded c d t) (with_guard p a is) v

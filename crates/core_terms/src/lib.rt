@@ -10,9 +10,11 @@ pub mod decl;
 pub mod examples;
 pub mod exp;
 pub mod laws;
+pub mod lists;
 pub mod markup;
 pub mod pat;
 pub mod program;
+pub mod program_lists;
 
 pub use accepted::Accepted;
 pub use basis::BasisName;
@@ -23,4 +25,4 @@ pub use exp::{
 };
 pub use markup::{AttrName, TagName};
 pub use pat::{Pat, PatField, PatFields, PatForm, Pats};
-pub use program::{Folders, Foreigns, Program, Rules};
+pub use program::{Exports, FolderName, Folders, ForeignName, Foreigns, Program, Rule, Rules};

@@ -1,0 +1,4 @@
+pub mod Escapes
+pub mod Sent
+pub mod ReadBack
+pub mod OneCall

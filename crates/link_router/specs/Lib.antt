@@ -4,3 +4,4 @@ pub mod Reading
 pub mod Routed
 pub mod View
 pub mod Worked
+pub mod RouteLaws

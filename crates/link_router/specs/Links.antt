@@ -15,6 +15,10 @@ joined (p ∷ ps) = 47 ∷ p ++ joined ps
 abbrev pub link : Ent → Wrs → List ℕ
 link e ws = joined (e.name ++ all_pieces ws)
 
+-- the text is the link of the entry with this number
+abbrev pub IsLinkOf : Rts → ℕ → Wrs → List ℕ → Type 0
+IsLinkOf routes i ws text = (e : Ent) × (slice_get routes.entries i ≡ Some e) × (text ≡ link e ws)
+
 -- a byte before the first piece
 abbrev pub in_first : ℕ → List (List ℕ) → List (List ℕ)
 in_first b [] = (b ∷ []) ∷ []

@@ -1,4 +1,5 @@
-//! Worked links: four texts, and how a path is read back.
+//! Laws of links: which calls a path is, and links worked by hand.
+ghost use Rattle.link_router.specs.RouteLaws.{RoutesAreRead, OneCallAtMost};
 ghost use Rattle.link_router.specs.Worked.{WorkedLinks, WorkedPaths};
 
 /// The links of the texts nothing, `.`, `a/b` and `é`, of a negative number, and of a list.
@@ -9,4 +10,14 @@ pub fn links_are_as_worked()
 /// A path in lower-case hexadecimal digits, and one behind an authority, have the pieces of the link.
 pub fn paths_are_as_worked()
     ensures { WorkedPaths }
+{}
+
+/// A path is a link of just the calls that its pieces are read as, from left to right.
+pub fn routes_are_read()
+    ensures { RoutesAreRead }
+{}
+
+/// At most one call has a path.
+pub fn one_call_at_most()
+    ensures { OneCallAtMost }
 {}

@@ -5,7 +5,9 @@ pub mod ask;
 pub mod call;
 pub mod laws;
 pub mod routes;
+pub mod texts;
 
 pub use ask::Ask;
 pub use call::Call;
 pub use routes::{Entry, Routes};
+pub use texts::link_text;
