@@ -1,5 +1,5 @@
 -- What is computed to be separated is separated: rows of which each pair of pieces is are apart.
-use Rattle.std.proofs.Common.{◌≡◌, ◌≢◌, ℕ, zero, suc, ◌+◌, ◌<◌, List, [], ◌∷◌, ◌++◌, length, refl, ap, arith, ◌∙◌, sym, subst, Bool, ◌&&◌, ◌||◌, not, true, false, Option, Some, None, ◌⊎◌, inl, inr, Result, Ok, Err, IfOk}
+use Rattle.std.proofs.Common.{◌≡◌, ◌≢◌, ℕ, zero, suc, ◌+◌, ◌<◌, List, [], ◌∷◌, ◌++◌, length, refl, ap, arith, ◌∙◌, sym, subst, Bool, ◌&&◌, ◌||◌, not, true, false, Option, Some, None, if◌then◌else◌, ◌⊎◌, inl, inr, Result, Ok, Err, IfOk}
 use Rattle.std.specs.List.{All, Contains}
 use Rattle.std.specs.Option.{option_or}
 use Rattle.std.proofs.lemmas.Bool.{eqb-true, eq-eqb}

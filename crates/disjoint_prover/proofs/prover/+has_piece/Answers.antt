@@ -13,4 +13,4 @@ returns-else-has_piece t c =
 
 pub returns-else-is_map : goal.returns-else-is_map
 returns-else-is_map t c =
-    among_itself _ _ _ _ _ _ (tree_app c.args.row.now c.deref-in-App.result.now c.in-App.r.value c.in-App.f c.in-App.r c.in-App.is c.deref-in-App.ensures refl) c.is_map.ensures c.if-is_map.false c.equal.ensures
+    among_itself _ _ _ _ _ _ (tree_app c.args.row.now c.deref-in-App.result.now c.in-App.r.value c.in-App.f c.in-App.r c.in-App.is c.deref-in-App.ensures refl) c.is_map.ensures c.if-is_map.false c.same_con.ensures
