@@ -1,10 +1,10 @@
 //! The readers of parts give the trees that the engine gives.
 use crate::driving::{Found, markup_of, query_of};
+use crate::tests::tokens::tokens_of;
 use grammar_engine::read::read_part;
 use std::alloc::Global;
 use surface_grammar::{Form, ParseFault, Part};
 use surface_tree::Tokens;
-use ur_lexer::lex;
 
 /// Whether the engine finds the same tree for the part behind the first token.
 fn is_the_engines(alloc: Global, tokens: &Tokens, part: Part, found: &Found) -> bool {
@@ -20,7 +20,7 @@ fn is_the_engines(alloc: Global, tokens: &Tokens, part: Part, found: &Found) -> 
 
 /// Whether the nodes behind `<xml>` are read up to the last token, as the engine reads them.
 fn is_markup(alloc: Global, text: &str) -> bool {
-    let Ok(tokens) = lex(alloc, text) else {
+    let Some(tokens) = tokens_of(alloc, text) else {
         return false;
     };
     match markup_of(alloc, &tokens, 1) {
@@ -34,7 +34,7 @@ fn is_markup(alloc: Global, text: &str) -> bool {
 
 /// Whether the query in brackets is read up to the last token, as the engine reads it.
 fn is_query(alloc: Global, text: &str) -> bool {
-    let Ok(tokens) = lex(alloc, text) else {
+    let Some(tokens) = tokens_of(alloc, text) else {
         return false;
     };
     match query_of(alloc, &tokens, 1) {
@@ -48,7 +48,7 @@ fn is_query(alloc: Global, text: &str) -> bool {
 
 /// The refusal of the nodes behind `<xml>`.
 fn fault_of(alloc: Global, text: &str) -> Option<ParseFault> {
-    let tokens = lex(alloc, text).ok()?;
+    let tokens = tokens_of(alloc, text)?;
     markup_of(alloc, &tokens, 1).err()
 }
 

@@ -1,11 +1,11 @@
 //! Whole modules are read, and their trees spell all their tokens.
+use crate::tests::tokens::tokens_of;
 use std::alloc::Global;
-use ur_lexer::lex;
 use ur_parser::{parse, parse_interface, read_small};
 
 /// Whether the source is a module.
 fn is_module(alloc: Global, text: &str) -> bool {
-    let Ok(tokens) = lex(alloc, text) else {
+    let Some(tokens) = tokens_of(alloc, text) else {
         return false;
     };
     match parse(alloc, &tokens) {
@@ -16,7 +16,7 @@ fn is_module(alloc: Global, text: &str) -> bool {
 
 /// Whether the source is an interface.
 fn is_interface(alloc: Global, text: &str) -> bool {
-    let Ok(tokens) = lex(alloc, text) else {
+    let Some(tokens) = tokens_of(alloc, text) else {
         return false;
     };
     match parse_interface(alloc, &tokens) {
@@ -27,7 +27,7 @@ fn is_interface(alloc: Global, text: &str) -> bool {
 
 /// Whether the source is a module of the small form.
 fn is_small(alloc: Global, text: &str) -> bool {
-    let Ok(tokens) = lex(alloc, text) else {
+    let Some(tokens) = tokens_of(alloc, text) else {
         return false;
     };
     read_small(alloc, &tokens).is_ok()
