@@ -1,7 +1,5 @@
-//! Normal forms, disjointness and kinds, on constructors.
+//! Normal forms and disjointness, on constructors.
 pub mod apart;
-pub mod kinds;
 pub mod rows;
-pub mod samples;
 pub mod steps;
 pub mod trial;
