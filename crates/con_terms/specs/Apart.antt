@@ -2,19 +2,25 @@
 -- The Ur/Web Manual, "Record Disjointness".
 use Rattle.std.specs.Prelude.{◌≡◌, ◌≢◌, ℕ, Bool, true, false, List, [], ◌∷◌, ◌++◌}
 use Rattle.std.specs.List.{Contains, All}
-use Rattle.con_terms.specs.Trees.{Cn, app, name, row, cat, map_of, names_of}
+use Rattle.con_terms.specs.Trees.{Cn, app, name, row, cat, map_of, Prs, no_pairs, pair}
 use Rattle.con_terms.specs.Equal.{Equal}
 
 -- the assumed guards, each with its two sides
 abbrev pub Guards : Type 0
 Guards = List (Cn × Cn)
 
--- the pieces of a row: a literal's names, those of both sides of ++, those of the row that is mapped, or the row itself
-abbrev pub pieces : Cn → List Cn
-pieces (row k ps) = names_of ps
-pieces (cat a b) = pieces a ++ pieces b
-pieces (app (app (map_of k l) f) r) = pieces r
-pieces c = c ∷ []
+abbrev mutual
+  -- the pieces of a row: those of a literal's names, those of both sides of ++, those of the row that is mapped, or the row itself
+  pub pieces : Cn → List Cn
+  pieces (row k ps) = name_pieces ps
+  pieces (cat a b) = pieces a ++ pieces b
+  pieces (app (app (map_of k l) f) r) = pieces r
+  pieces c = c ∷ []
+
+  -- those of each name of a literal. A name is its own piece; what is no name, as it may stand there before its kind is asked, is taken apart as elsewhere
+  pub name_pieces : Prs → List Cn
+  name_pieces no_pairs = []
+  name_pieces (pair n v ps) = pieces n ++ name_pieces ps
 
 -- whether both are literal names
 abbrev pub both_literal : Cn → Cn → Bool

@@ -1,5 +1,5 @@
 -- What is left of a list from an index on.
-use Rattle.std.proofs.Common.{◌≡◌, ℕ, suc, ◌+◌, ◌<◌, ◌≤◌, List, [], ◌∷◌, length, map, get_or, drop, vec_len, Vec, Global, refl, ap, arith, ◌∙◌, sym, add-one, drop-cons, drop_of_length-le}
+use Rattle.std.proofs.Common.{◌≡◌, ℕ, suc, ◌+◌, ◌<◌, ◌≤◌, List, [], ◌∷◌, length, get_or, drop, vec_len, Vec, Global, ap, arith, ◌∙◌, sym, add-one, drop-cons, drop_of_length-le}
 
 -- one element, and what is left after it
 pub drop_at : {X : Type 0} (xs : List X) (i : ℕ) (x : X) → i < length xs → x ≡ get_or xs i x → drop i xs ≡ x ∷ drop (i + 1) xs

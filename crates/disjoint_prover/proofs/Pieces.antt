@@ -1,5 +1,5 @@
 -- The pieces of rows, and the first pair of them that isn't separated.
-use Rattle.std.proofs.Common.{◌≡◌, ℕ, suc, ◌+◌, ◌<◌, ◌≤◌, List, [], ◌∷◌, ◌++◌, length, map, get_or, drop, vec_len, refl, ap, arith, ◌∙◌, sym, subst, Bool, ◌&&◌, ◌||◌, true, false, Option, Some, None, Result, Ok, Err, append_assoc, if◌then◌else◌}
+use Rattle.std.proofs.Common.{◌≡◌, ℕ, ◌+◌, ◌<◌, ◌≤◌, List, [], ◌∷◌, ◌++◌, map, get_or, drop, vec_len, refl, ap, ◌∙◌, sym, subst, Bool, ◌||◌, true, false, Option, None, Result, Ok, Err, append_assoc, if◌then◌else◌}
 use Rattle.std.specs.Option.{option_or}
 use Rattle.std.proofs.lemmas.List.{map-append}
 use Rattle.std.proofs.lemmas.List.Folds.{find-append}
@@ -7,9 +7,9 @@ use Rattle.con_terms.specs.View.{con_tree, pair_tree, pairs_from, con_step, cons
 use Rattle.con_terms.specs.declared.con.Con.TheFolds.{fold_out-Pair}
 use Rattle.con_terms.specs.declared.con.Pair.{Pair, out-Pair}
 use Rattle.con_terms.specs.declared.con.Pairs.{Pairs, out-Pairs}
-use Rattle.con_terms.specs.Trees.{names_of, Kd, Cn, Cns, Prs, var, basic, arrow, poly, guarded, record_of, app, lambda, unit_con, name, row, cat, map_of, tuple, proj}
-use Rattle.con_terms.specs.Apart.{Guards, pieces}
-use Rattle.disjoint_prover.proofs.Lists.{drop_in}
+use Rattle.con_terms.specs.Trees.{Cn, Cns, Prs, app, cat, map_of}
+use Rattle.con_terms.specs.Apart.{Guards, pieces, name_pieces}
+use Rattle.disjoint_prover.proofs.Lists.{drop_in, drop_end}
 use Rattle.row_normal.specs.SameTree.{cn_eq}
 use Rattle.disjoint_prover.specs.Separation.{is_mapping, among, first_of, first_touch, pairs_of, with_each}
 use Rattle.disjoint_prover.specs.View.{Gives, Tells}
@@ -101,32 +101,49 @@ touch_cat_ok gs d r a b is res n h =
 pub pair_name : (p : Pair) → (pair_tree p).0 ≡ con_tree (out-Pair p).name
 pair_name p = ap (λ (x : Cn × Cn). x.0) (fold_out-Pair Cn Cns (Cn × Cn) Prs con_step cons_step pair_step pairs_step p)
 
--- names from an index on
+-- the pieces of the names from an index on
 pub names_step : (ps : Pairs) (i : ℕ) (p : Pair) → i < vec_len (out-Pairs ps).items → p ≡ get_or (out-Pairs ps).items.items i p →
-    names_of (pairs_from (map pair_tree (drop i (out-Pairs ps).items.items))) ≡ con_tree (out-Pair p).name ∷ names_of (pairs_from (map pair_tree (drop (i + 1) (out-Pairs ps).items.items)))
+    name_pieces (pairs_from (map pair_tree (drop i (out-Pairs ps).items.items))) ≡ pieces (con_tree (out-Pair p).name) ++ name_pieces (pairs_from (map pair_tree (drop (i + 1) (out-Pairs ps).items.items)))
 names_step ps i p h e =
-    ap (λ xs. names_of (pairs_from (map pair_tree xs))) (drop_in (out-Pairs ps).items i p h e)
-    ∙ ap (λ n. n ∷ names_of (pairs_from (map pair_tree (drop (i + 1) (out-Pairs ps).items.items)))) (pair_name p)
+    ap (λ xs. name_pieces (pairs_from (map pair_tree xs))) (drop_in (out-Pairs ps).items i p h e)
+    ∙ ap (λ n. pieces n ++ name_pieces (pairs_from (map pair_tree (drop (i + 1) (out-Pairs ps).items.items)))) (pair_name p)
 
--- one more pair is separated, or is the first that isn't
-pub next_err : (gs : Guards) (p n : Cn) (ns ms : List Cn) → ns ≡ n ∷ ms → (e : DisjointFault) → Tells e (first_of gs ((p, n) ∷ [])) → Tells e (first_of gs (with_each p ns))
-next_err gs p n ns ms is e h =
+-- none are left at the end
+pub names_end : (ps : Pairs) (i : ℕ) → vec_len (out-Pairs ps).items ≤ i → name_pieces (pairs_from (map pair_tree (drop i (out-Pairs ps).items.items))) ≡ []
+names_end ps i h = ap (λ xs. name_pieces (pairs_from (map pair_tree xs))) (drop_end (out-Pairs ps).items i h)
+
+each_append : (gs : Guards) (p : Cn) (ns ms : List Cn) → first_of gs (with_each p (ns ++ ms)) ≡ option_or (first_of gs (with_each p ns)) (first_of gs (with_each p ms))
+each_append gs p ns ms = ap (first_of gs) (map-append (λ q. (p, q)) ns ms) ∙ first_append gs (with_each p ns) (with_each p ms)
+
+pairs_first : (gs : Guards) (ns ms qs : List Cn) → first_of gs (pairs_of (ns ++ ms) qs) ≡ option_or (first_of gs (pairs_of ns qs)) (first_of gs (pairs_of ms qs))
+pairs_first gs ns ms qs = ap (first_of gs) (pairs_append ns ms qs) ∙ first_append gs (pairs_of ns qs) (pairs_of ms qs)
+
+-- the pieces of one more name are separated, or have the first that isn't
+pub next_err : (gs : Guards) (p : Cn) (xs ns ms : List Cn) → xs ≡ ns ++ ms → (e : DisjointFault) → Tells e (first_of gs (with_each p ns)) → Tells e (first_of gs (with_each p xs))
+next_err gs p xs ns ms is e h =
     let P : Option (Cn × Cn) → Type 0 = λ o. Tells e o in
-    subst P (sym (ap (λ y. first_of gs (with_each p y)) is ∙ first_append gs ((p, n) ∷ []) (with_each p ms))) (tells_before e _ _ h)
+    subst P (sym (ap (λ y. first_of gs (with_each p y)) is ∙ each_append gs p ns ms)) (tells_before e _ _ h)
 
-pub next_ok : (gs : Guards) (p n : Cn) (ns ms : List Cn) → ns ≡ n ∷ ms → first_of gs ((p, n) ∷ []) ≡ None → first_of gs (with_each p ns) ≡ first_of gs (with_each p ms)
-next_ok gs p n ns ms is h =
-    ap (λ y. first_of gs (with_each p y)) is ∙ first_append gs ((p, n) ∷ []) (with_each p ms) ∙ ap (λ o. option_or o (first_of gs (with_each p ms))) h
+pub next_ok : (gs : Guards) (p : Cn) (xs ns ms : List Cn) → xs ≡ ns ++ ms → first_of gs (with_each p ns) ≡ None → first_of gs (with_each p xs) ≡ first_of gs (with_each p ms)
+next_ok gs p xs ns ms is h =
+    ap (λ y. first_of gs (with_each p y)) is ∙ each_append gs p ns ms ∙ ap (λ o. option_or o (first_of gs (with_each p ms))) h
 
--- one more name is separated from each piece, or has the first pair that isn't
-pub name_err : (gs : Guards) (n : Cn) (ns ms qs : List Cn) → ns ≡ n ∷ ms → (e : DisjointFault) → Tells e (first_of gs (with_each n qs)) → Tells e (first_of gs (pairs_of ns qs))
-name_err gs n ns ms qs is e h =
+-- those of one more name are separated from each piece, or have the first pair that isn't
+pub name_err : (gs : Guards) (xs ns ms qs : List Cn) → xs ≡ ns ++ ms → (e : DisjointFault) → Tells e (first_of gs (pairs_of ns qs)) → Tells e (first_of gs (pairs_of xs qs))
+name_err gs xs ns ms qs is e h =
     let P : Option (Cn × Cn) → Type 0 = λ o. Tells e o in
-    subst P (sym (ap (λ y. first_of gs (pairs_of y qs)) is ∙ first_append gs (with_each n qs) (pairs_of ms qs))) (tells_before e _ _ h)
+    subst P (sym (ap (λ y. first_of gs (pairs_of y qs)) is ∙ pairs_first gs ns ms qs)) (tells_before e _ _ h)
 
-pub name_ok : (gs : Guards) (n : Cn) (ns ms qs : List Cn) → ns ≡ n ∷ ms → first_of gs (with_each n qs) ≡ None → first_of gs (pairs_of ns qs) ≡ first_of gs (pairs_of ms qs)
-name_ok gs n ns ms qs is h =
-    ap (λ y. first_of gs (pairs_of y qs)) is ∙ first_append gs (with_each n qs) (pairs_of ms qs) ∙ ap (λ o. option_or o (first_of gs (pairs_of ms qs))) h
+pub name_ok : (gs : Guards) (xs ns ms qs : List Cn) → xs ≡ ns ++ ms → first_of gs (pairs_of ns qs) ≡ None → first_of gs (pairs_of xs qs) ≡ first_of gs (pairs_of ms qs)
+name_ok gs xs ns ms qs is h =
+    ap (λ y. first_of gs (pairs_of y qs)) is ∙ pairs_first gs ns ms qs ∙ ap (λ o. option_or o (first_of gs (pairs_of ms qs))) h
+
+-- whether a piece is among those of the names from an index on
+pub among_here : (p : Cn) (xs ns ms : List Cn) (b whole : Bool) → xs ≡ ns ++ ms → b ≡ among p ns → b ≡ true → whole ≡ among p xs → true ≡ whole
+among_here p xs ns ms b whole is h t w = sym (w ∙ ap (among p) is ∙ among_append p ns ms ∙ ap (λ y. y || among p ms) (sym h ∙ t))
+
+pub among_later : (p : Cn) (xs ns ms : List Cn) (b whole : Bool) → xs ≡ ns ++ ms → b ≡ among p ns → b ≡ false → whole ≡ among p xs → whole ≡ among p ms
+among_later p xs ns ms b whole is h f w = w ∙ ap (among p) is ∙ among_append p ns ms ∙ ap (λ y. y || among p ms) (sym h ∙ f)
 
 -- what a result tells, by what it is
 pub gives_err : {X : Type 0} (r : Result X DisjointFault) (o : Option (Cn × Cn)) (e : DisjointFault) → r ≡ Err e → Gives r o → Tells e o

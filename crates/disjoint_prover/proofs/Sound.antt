@@ -1,8 +1,8 @@
 -- What is computed to be separated is separated: rows of which each pair of pieces is are apart.
-use Rattle.std.proofs.Common.{◌≡◌, ◌≢◌, ℕ, zero, suc, ◌+◌, ◌<◌, List, [], ◌∷◌, ◌++◌, length, refl, ap, arith, ◌∙◌, sym, subst, Bool, ◌&&◌, ◌||◌, not, true, false, Option, Some, None, if◌then◌else◌, ◌⊎◌, inl, inr, Result, Ok, Err, IfOk}
+use Rattle.std.proofs.Common.{◌≡◌, ℕ, suc, List, [], ◌∷◌, refl, ap, arith, ◌∙◌, sym, subst, Bool, ◌&&◌, ◌||◌, not, true, false, Option, Some, None, if◌then◌else◌, ◌⊎◌, inl, inr, Result, Ok, Err, IfOk}
 use Rattle.std.specs.List.{All, Contains}
 use Rattle.std.specs.Option.{option_or}
-use Rattle.std.proofs.lemmas.Bool.{eqb-true, eq-eqb}
+use Rattle.std.proofs.lemmas.Bool.{eq-eqb}
 use Rattle.std.proofs.lemmas.List.Elements.{All-cons, All-nil}
 use Rattle.con_terms.specs.Trees.{Cn, name}
 use Rattle.con_terms.specs.Equal.{same}

@@ -1,6 +1,6 @@
 -- The trees of rows, from what a match tells.
 use Rattle.std.proofs.Common.{◌≡◌, ap, ◌∙◌, sym, rules, Box, Global}
-use Rattle.con_terms.specs.Trees.{Cn, app, cat}
+use Rattle.con_terms.specs.Trees.{app, cat}
 use Rattle.con_terms.specs.View.{con_tree}
 use Rattle.con_terms.specs.declared.con.Con.{Con, App, Cat}
 use Rattle.con_terms.specs.declared.con.Con.TheFolds.{the_lemmas}

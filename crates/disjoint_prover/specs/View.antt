@@ -1,5 +1,5 @@
 -- What guards and refusals are.
-use Rattle.std.specs.Prelude.{◌≡◌, List, Option, Some, None, Result, MatchResult, map}
+use Rattle.std.specs.Prelude.{◌≡◌, Option, Some, None, Result, MatchResult, map}
 use Rattle.con_terms.specs.Trees.{Cn}
 use Rattle.con_terms.specs.Apart.{Guards}
 use Rattle.con_terms.specs.View.{con_tree}

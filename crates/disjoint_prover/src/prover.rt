@@ -1,9 +1,8 @@
 //! Whether two rows are apart.
 
 ghost use Rattle.std.specs.Prelude.{◌≡◌, ◌∷◌, [], IfOk};
-ghost use Rattle.con_terms.specs.Apart.{Apart, both_literal, pieces};
+ghost use Rattle.con_terms.specs.Apart.{Apart, both_literal, name_pieces, pieces};
 ghost use Rattle.con_terms.specs.View.{con_tree, pairs_tree};
-ghost use Rattle.con_terms.specs.Trees.{names_of};
 ghost use Rattle.disjoint_prover.specs.Separation.{among, first_of, first_touch, is_mapping, pairs_of, separated_by, separated_by_some, separates, with_each};
 ghost use Rattle.disjoint_prover.specs.View.{Gives, guard_list, sides_tree};
 ghost use Rattle.row_normal.specs.View.{normal_tree};
@@ -53,11 +52,12 @@ fn check(alloc: Global, g: &Guards, left: &Con, right: &Con) -> Result<(), Disjo
     }
 }
 
+#[cycle(check)]
 fn check_names(alloc: Global, g: &Guards, ps: &Pairs, right: &Con) -> Result<(), DisjointFault>
-    ensures { Gives result (first_of (guard_list g.now) (pairs_of (names_of (pairs_tree ps.now)) (pieces (con_tree right.now)))) }
+    ensures { Gives result (first_of (guard_list g.now) (pairs_of (name_pieces (pairs_tree ps.now)) (pieces (con_tree right.now)))) }
 {
     for i in 0..ps.items.len() {
-        check_piece(alloc, g, &ps.items[i].name, right)?;
+        check(alloc, g, &ps.items[i].name, right)?;
     }
     Ok(())
 }
@@ -84,11 +84,12 @@ fn check_piece(alloc: Global, g: &Guards, piece: &Con, right: &Con) -> Result<()
     }
 }
 
+#[cycle(check_piece)]
 fn check_each(alloc: Global, g: &Guards, piece: &Con, ps: &Pairs) -> Result<(), DisjointFault>
-    ensures { Gives result (first_of (guard_list g.now) (with_each (con_tree piece.now) (names_of (pairs_tree ps.now)))) }
+    ensures { Gives result (first_of (guard_list g.now) (with_each (con_tree piece.now) (name_pieces (pairs_tree ps.now)))) }
 {
     for i in 0..ps.items.len() {
-        check_two(alloc, g, piece, &ps.items[i].name)?;
+        check_piece(alloc, g, piece, &ps.items[i].name)?;
     }
     Ok(())
 }
@@ -159,11 +160,12 @@ fn has_piece(row: &Con, piece: &Con) -> bool
     }
 }
 
+#[cycle(has_piece)]
 fn has_name(ps: &Pairs, piece: &Con) -> bool
-    ensures { result ≡ among (con_tree piece.now) (names_of (pairs_tree ps.now)) }
+    ensures { result ≡ among (con_tree piece.now) (name_pieces (pairs_tree ps.now)) }
 {
     for i in 0..ps.items.len() {
-        if same_con(&ps.items[i].name, piece) {
+        if has_piece(&ps.items[i].name, piece) {
             return true;
         }
     }

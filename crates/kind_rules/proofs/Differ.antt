@@ -19,7 +19,7 @@ use Rattle.kind_rules.specs.Kinding.{kinding, kinding_all, kinding_fields, judge
 use Rattle.kind_rules.specs.declared.fault.KindFault.{KindFault}
 use Rattle.kind_rules.specs.declared.fault.KindFault.TheVariants.{Unbound, KindMismatch, NotDisjoint, TooLarge, Memory}
 
-abbrev DiffersIn : Flw → Type 0
+abbrev pub DiffersIn : Flw → Type 0
 DiffersIn (kinds_differ k l) = k ≢ l
 DiffersIn (unbound_variable i) = Unit {0}
 DiffersIn (unbound_basic s) = Unit {0}
@@ -35,7 +35,7 @@ abbrev FairFlaw : Option Flw → Type 0
 FairFlaw None = Unit {0}
 FairFlaw (Some e) = DiffersIn e
 
-then_fair : {X Y : Type 0} (r : Result X Flw) (f : X → Result Y Flw) → Fair r → ((x : X) → Fair (f x)) → Fair (and_then r f)
+pub then_fair : {X Y : Type 0} (r : Result X Flw) (f : X → Result Y Flw) → Fair r → ((x : X) → Fair (f x)) → Fair (and_then r f)
 then_fair (Ok x) f h g = g x
 then_fair (Err e) f h g = h
 
@@ -54,10 +54,10 @@ unlike_fair k l = by_test (kd_eq k l) refl
     by_test true e = tt
     by_test false e = λ same. let t : kd_eq k l ≡ true = ap (λ z. kd_eq k z) (sym same) ∙ kd_eq_refl k in cc
 
-expects_fair : (k l : Kd) → Fair (expects k l)
+pub expects_fair : (k l : Kd) → Fair (expects k l)
 expects_fair k l = unless_fair (unlike k l) l (unlike_fair k l)
 
-row_fair : (k : Kd) → Fair (expects_row k)
+pub row_fair : (k : Kd) → Fair (expects_row k)
 row_fair (row_of k) = tt
 row_fair types = λ e. cc
 row_fair units = λ e. cc

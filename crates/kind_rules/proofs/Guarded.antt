@@ -47,7 +47,7 @@ separated_too s (names_differ n) = names_differ n
 separated_too s (by_guard {a = a} {b = b} m l r) = let w = answered a b s m in by_guard w.there (piece_along w.left l) (piece_along w.right r)
 separated_too s (by_guard_turned {a = a} {b = b} m l r) = let w = answered a b s m in by_guard_turned w.there (piece_along w.left l) (piece_along w.right r)
 
-apart_too : {gs hs : Guards} {c d : Cn} → EqualGuards gs hs → Apart gs c d → Apart hs c d
+pub apart_too : {gs hs : Guards} {c d : Cn} → EqualGuards gs hs → Apart gs c d → Apart hs c d
 apart_too {gs} {hs} s (apart {c' = c} {d' = d} h k m) =
     apart h k (All-weaker (λ p. All (Separated gs p) (pieces d)) (λ p. All (Separated hs p) (pieces d)) (λ p each. All-weaker (Separated gs p) (Separated hs p) (λ q. separated_too s) (pieces d) each) (pieces c) m)
 
@@ -56,7 +56,7 @@ pairwise_too [] s h = tt
 pairwise_too {gs} {hs} (n ∷ ns) s (h, rest) = (All-weaker (Apart gs n) (Apart hs n) (λ m. apart_too s) ns h, pairwise_too ns s rest)
 
 -- from under one more binder
-raised : {gs hs : Guards} → EqualGuards gs hs → EqualGuards (map (λ (g : Cn × Cn). (shift 1 g.0 0, shift 1 g.1 0)) gs) (map (λ (g : Cn × Cn). (shift 1 g.0 0, shift 1 g.1 0)) hs)
+pub raised : {gs hs : Guards} → EqualGuards gs hs → EqualGuards (map (λ (g : Cn × Cn). (shift 1 g.0 0, shift 1 g.1 0)) gs) (map (λ (g : Cn × Cn). (shift 1 g.0 0, shift 1 g.1 0)) hs)
 raised no_guards = no_guards
 raised (one_guard p q r) = one_guard (Equal_shift p 1 0) (Equal_shift q 1 0) (raised r)
 
@@ -66,10 +66,10 @@ pub record Alike (G H : Scope) : Type 0 where
   pub guards : EqualGuards G.guards H.guards
   pub basics : G.basics ≡ H.basics
 
-under : {G H : Scope} (k : Kd) → Alike G H → Alike (bind k G) (bind k H)
+pub under : {G H : Scope} (k : Kd) → Alike G H → Alike (bind k G) (bind k H)
 under k s = record { binders = ap (λ ks. k ∷ ks) s.binders; guards = raised s.guards; basics = s.basics }
 
-assuming : {G H : Scope} (a b : Cn) → Alike G H → Alike (assume a b G) (assume a b H)
+pub assuming : {G H : Scope} (a b : Cn) → Alike G H → Alike (assume a b G) (assume a b H)
 assuming a b s = record { binders = s.binders; guards = one_guard same same s.guards; basics = s.basics }
 
 mutual

@@ -1,4 +1,3 @@
-pub mod Normal
 pub mod Guarded
 pub mod Sound
 pub mod Differ

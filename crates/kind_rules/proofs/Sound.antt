@@ -16,16 +16,16 @@ use Rattle.kind_rules.specs.Flaws.{Flw, kinds_differ, too_large}
 use Rattle.kind_rules.specs.Compared.{comparison_units, with_second, with_first, normal_forms, touch_flaw, forms_flaw, not_apart, not_apart_from, not_pairwise_apart}
 use Rattle.kind_rules.specs.Rules.{and_then, unless, or_flaw, both, unlike, expects, expects_row, type_kind, guard_rows, guard_sides, applied_kind, same_rows, field_flaw, fields_flaw, row_flaw, component_kind}
 use Rattle.kind_rules.specs.Kinding.{kinding, kinding_all, kinding_fields, judged}
-use Rattle.kind_rules.proofs.Normal.{nf_equal}
+use Rattle.row_normal.proofs.NormalEqual.{nf_equal}
 use Rattle.kind_rules.proofs.Guarded.{kinded_under}
 
 -- what is found where something follows from it
-record Follows {X Y : Type 0} (r : Result X Flw) (f : X → Result Y Flw) (y : Y) : Type 0 where
-  x : X
-  first : r ≡ Ok x
-  then' : f x ≡ Ok y
+pub record Follows {X Y : Type 0} (r : Result X Flw) (f : X → Result Y Flw) (y : Y) : Type 0 where
+  pub x : X
+  pub first : r ≡ Ok x
+  pub then' : f x ≡ Ok y
 
-follows : {X Y : Type 0} (r : Result X Flw) (f : X → Result Y Flw) (y : Y) → and_then r f ≡ Ok y → Follows r f y
+pub follows : {X Y : Type 0} (r : Result X Flw) (f : X → Result Y Flw) (y : Y) → and_then r f ≡ Ok y → Follows r f y
 follows (Ok x) f y h = record { x = x; first = refl; then' = h }
 follows (Err e) f y h = cc
 
@@ -48,7 +48,7 @@ tested false e h = cc
 like : (k l : Kd) → unlike k l ≡ None → k ≡ l
 like k l h = kd_eq_same k l (tested (kd_eq k l) (kinds_differ k l) h)
 
-expected : (k l m : Kd) → expects k l ≡ Ok m → (k ≡ l) × (l ≡ m)
+pub expected : (k l m : Kd) → expects k l ≡ Ok m → (k ≡ l) × (l ≡ m)
 expected k l m h = let (p, q) = unless_ok (unlike k l) l m h in (like k l p, q)
 
 both_found : (r s : Result Kd Flw) (k : Kd × Kd) → both r s ≡ Ok k → (r ≡ Ok k.0) × (s ≡ Ok k.1)
@@ -79,14 +79,14 @@ both_normal left a b m mn h g = by_second (nf left b) refl g
     by_second (Some n) e i =
         let is : (m, n.0) ≡ mn = cc in
         let P : Cn × Cn → Type 0 = λ z. Equal a z.0 × Equal b z.1 in
-        subst P is (h, nf_equal left b n.0 n.1 e)
+        subst P is (h, nf_equal left n.1 b n.0 e)
 
 pub forms_equal : (left : ℕ) (a b : Cn) (mn : Cn × Cn) → normal_forms left a b ≡ Ok mn → Equal a mn.0 × Equal b mn.1
 forms_equal left a b mn h = by_first (nf left a) refl h
   where
     by_first : (o : Option (Cn × ℕ)) → nf left a ≡ o → with_first o b ≡ Ok mn → Equal a mn.0 × Equal b mn.1
     by_first None e i = cc
-    by_first (Some m) e i = both_normal m.1 a b m.0 mn (nf_equal left a m.0 m.1 e) i
+    by_first (Some m) e i = both_normal m.1 a b m.0 mn (nf_equal left m.1 a m.0 e) i
 
 apart_along : {gs : Guards} {a b m n : Cn} → Equal a m → Equal b n → Apart gs m n → Apart gs a b
 apart_along h k (apart p q s) = apart (step h p) (step k q) s

@@ -1,5 +1,5 @@
 -- Choices of two, and what a map over a choice gives.
-use Rattle.std.proofs.Common.{◌≡◌, Bool, true, false, ◌&&◌, ◌||◌, ◌⊎◌, inl, inr, Option, Some, None, option_map, if◌then◌else◌, refl}
+use Rattle.std.proofs.Common.{◌≡◌, Bool, true, false, ◌&&◌, ◌||◌, ◌⊎◌, inl, inr, Option, Some, None, option_map, refl}
 use Rattle.row_normal.specs.Steps.{or_else}
 
 pub none_some : {X : Type 0} {P : Type 0} (x : X) → None ≡ Some x → P

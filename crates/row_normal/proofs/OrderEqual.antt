@@ -1,8 +1,8 @@
 -- A constructor with its rows in order is equal to it.
-use Rattle.std.proofs.Common.{◌≡◌, ℕ, zero, suc, Bool, true, false, List, [], ◌∷◌, ◌++◌, if◌then◌else◌, refl, ap, sym, subst}
+use Rattle.std.proofs.Common.{◌≡◌, ℕ, Bool, true, false, List, [], ◌∷◌, ◌++◌, if◌then◌else◌, refl, subst}
 use Rattle.con_terms.specs.Trees.{Kd, Cn, var, basic, arrow, poly, guarded, record_of, app, lambda, unit_con, name, row, cat, map_of, tuple, proj, Cns, no_cons, con, Prs, no_pairs, pair}
 use Rattle.con_terms.specs.Same.{kd_eq}
-use Rattle.con_terms.specs.Equal.{Equal, same, back, step as chain, in_arrow, in_poly, in_guarded, in_record, in_app, in_lambda, in_row, in_cat, in_tuple, in_proj, cat_swaps, cat_groups, cat_unit, row_splits, EqualAll, none_all, one_all, EqualPairs, none_pairs, one_pair}
+use Rattle.con_terms.specs.Equal.{Equal, same, back, step as chain, in_arrow, in_poly, in_guarded, in_record, in_app, in_lambda, in_row, in_cat, in_tuple, in_proj, cat_swaps, cat_groups, cat_unit, row_splits, EqualAll, none_all, one_all, none_pairs, one_pair}
 use Rattle.con_terms.proofs.SameKinds.{kd_eq_same}
 use Rattle.row_normal.specs.Ordered.{before, insert, sorted, leading_fields, after_leading, glued, joined, ordered, ordered_pieces, field_pieces, ordered_all, first_kind}
 

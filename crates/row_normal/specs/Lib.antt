@@ -2,7 +2,10 @@ pub mod Steps
 pub mod Contracted
 pub mod Ordered
 pub mod Glue
+pub mod Finished
 pub mod NormalForm
+pub mod StepLeft
+pub mod Rounds
 pub mod Turns
 pub mod SameTree
 pub mod View

@@ -9,11 +9,14 @@ use con_terms::con::{Con, Cons, Pair, Pairs};
 use con_terms::kind::{Kind, Kinds};
 use std::alloc::{AllocError, Global};
 
+// How many numbers most keys have room in.
+const USUAL: usize = 16;
+
 /// By what a piece of a row is placed.
 pub fn piece_key(alloc: Global, c: &Con) -> Result<Vec<u64>, AllocError>
     ensures { IfOk result (λ key. key.items ≡ place (con_tree c.now)) }
 {
-    let mut key = Vec::new(alloc);
+    let mut key = Vec::with_capacity(alloc, USUAL)?;
     rank(c, &mut key)?;
     con_code(c, &mut key)?;
     Ok(key)

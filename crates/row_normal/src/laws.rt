@@ -1,6 +1,6 @@
 //! Laws of normal forms. Each function does nothing; its contract holds of all constructors.
 
-ghost use Rattle.row_normal.specs.Laws.{MayStepAgain, NormalFormsAreEqual, NormalFormsStay, OrderOfWriting, OrderStays, RowsMayTurn};
+ghost use Rattle.row_normal.specs.Laws.{NormalFormsAreEqual, NormalFormsStay, OrderOfWriting, OrderStays, RefusalsHaveACause, RowsMayTurn};
 
 /// A normal form is equal to what it comes from.
 pub fn normal_forms_are_equal()
@@ -22,12 +22,12 @@ pub fn order_stays()
     ensures { OrderStays }
 {}
 
-/// A normal form in which no step and no eta redex is left is its own normal form.
+/// A normal form that is not too deep is its own normal form, at no units.
 pub fn normal_forms_stay()
     ensures { NormalFormsStay }
 {}
 
-/// A normal form isn't always its own: by eta or by the order of rows a step may come about. One that does so.
-pub fn a_normal_form_may_step_again()
-    ensures { MayStepAgain }
+/// A refusal has one of two causes: the steps reach the units, or a constructor met is too deep.
+pub fn refusals_have_a_cause()
+    ensures { RefusalsHaveACause }
 {}

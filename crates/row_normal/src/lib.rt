@@ -5,12 +5,15 @@
 
 mod code;
 mod eta;
+mod finish;
 pub mod form;
 mod glue;
 pub mod laws;
+mod left;
 pub mod normal;
 mod order;
 mod piece;
 mod reduce;
+mod rounds;
 pub mod same;
 mod steps;

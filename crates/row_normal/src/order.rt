@@ -11,56 +11,74 @@ use crate::piece::Piece;
 use con_terms::con::{Con, Cons, Pair, Pairs};
 use con_terms::kind::{Kind, copy_kind};
 use std::alloc::{AllocError, Global};
+use std::mem;
 
-/// The constructor with the pieces of each row in order.
+/// Puts the pieces of each row of a constructor in order.
 #[cycle(ordered)]
-pub fn ordered(alloc: Global, c: Con) -> Result<Con, AllocError>
-    ensures { IfOk result (λ d. con_tree d ≡ in_its_order (con_tree c)) }
+pub fn ordered(alloc: Global, c: &mut Con) -> Result<(), AllocError>
+    ensures { OnOk result (con_tree c.new ≡ in_its_order (con_tree c.old)) }
 {
     match c {
-        Con::Arrow(a, b) => Ok(Con::Arrow(ordered_box(alloc, a)?, ordered_box(alloc, b)?)),
-        Con::Poly(implicit, k, b) => Ok(Con::Poly(implicit, k, ordered_box(alloc, b)?)),
-        Con::Guarded(a, b, t) => {
-            let a = ordered_box(alloc, a)?;
-            let b = ordered_box(alloc, b)?;
-            Ok(Con::Guarded(a, b, ordered_box(alloc, t)?))
+        Con::Arrow(a, b) => {
+            ordered_box(alloc, a)?;
+            ordered_box(alloc, b)
         }
-        Con::Record(a) => Ok(Con::Record(ordered_box(alloc, a)?)),
-        Con::App(f, a) => Ok(Con::App(ordered_box(alloc, f)?, ordered_box(alloc, a)?)),
-        Con::Lambda(k, b) => Ok(Con::Lambda(k, ordered_box(alloc, b)?)),
+        Con::Poly(_, _, b) => ordered_box(alloc, b),
+        Con::Guarded(a, b, t) => {
+            ordered_box(alloc, a)?;
+            ordered_box(alloc, b)?;
+            ordered_box(alloc, t)
+        }
+        Con::Record(a) => ordered_box(alloc, a),
+        Con::App(f, a) => {
+            ordered_box(alloc, f)?;
+            ordered_box(alloc, a)
+        }
+        Con::Lambda(_, b) => ordered_box(alloc, b),
         Con::Row(k, fields) => {
-            let kind = copy_kind(alloc, &k)?;
-            let mut pieces = Vec::new(alloc);
-            field_pieces(alloc, fields, &k, &mut pieces)?;
-            in_order(alloc, kind, pieces)
+            let kind = copy_kind(alloc, k)?;
+            let all = mem::replace(fields, Pairs::new(alloc));
+            let mut pieces = Vec::with_capacity(alloc, all.items.len())?;
+            field_pieces(alloc, all, k, &mut pieces)?;
+            *c = in_order(alloc, kind, pieces)?;
+            Ok(())
         }
         Con::Cat(a, b) => {
-            let kind = first_kind(alloc, &a)?;
+            let kind = first_kind(alloc, a)?;
+            let left = Box::replace(a, Con::UnitCon);
+            let right = Box::replace(b, Con::UnitCon);
             let mut pieces = Vec::new(alloc);
-            row_pieces(alloc, Box::into_inner(a), &mut pieces)?;
-            row_pieces(alloc, Box::into_inner(b), &mut pieces)?;
-            in_order(alloc, kind, pieces)
+            row_pieces(alloc, left, &mut pieces)?;
+            row_pieces(alloc, right, &mut pieces)?;
+            *c = in_order(alloc, kind, pieces)?;
+            Ok(())
         }
-        Con::Tuple(cs) => Ok(Con::Tuple(ordered_each(alloc, cs)?)),
-        Con::Proj(a, n) => Ok(Con::Proj(ordered_box(alloc, a)?, n)),
-        leaf => Ok(leaf),
+        Con::Tuple(cs) => {
+            let all = mem::replace(cs, Cons::new(alloc));
+            *cs = ordered_each(alloc, all)?;
+            Ok(())
+        }
+        Con::Proj(a, _) => ordered_box(alloc, a),
+        _ => Ok(()),
     }
 }
 
 #[cycle(ordered)]
-fn ordered_box(alloc: Global, c: Box<Con>) -> Result<Box<Con>, AllocError>
-    ensures { IfOk result (λ d. con_tree d.value ≡ in_its_order (con_tree c.value)) }
+fn ordered_box(alloc: Global, c: &mut Box<Con>) -> Result<(), AllocError>
+    ensures { OnOk result (con_tree c.new.value ≡ in_its_order (con_tree c.old.value)) }
 {
-    Ok(Box::new(alloc, ordered(alloc, Box::into_inner(c))?)?)
+    ordered(alloc, c)
 }
 
 #[cycle(ordered)]
 fn ordered_each(alloc: Global, cs: Cons) -> Result<Cons, AllocError>
     ensures { IfOk result (λ ds. cons_tree ds ≡ ordered_all (cons_tree cs)) }
 {
-    let mut items = Vec::new(alloc);
+    let mut items = Vec::with_capacity(alloc, cs.items.len())?;
     for c in cs.items {
-        items.push(ordered(alloc, c)?)?;
+        let mut c = c;
+        ordered(alloc, &mut c)?;
+        items.push(c)?;
     }
     Ok(Cons { items })
 }
@@ -77,7 +95,8 @@ fn row_pieces(alloc: Global, c: Con, pieces: &mut Vec<Piece>) -> Result<(), Allo
             row_pieces(alloc, Box::into_inner(b), pieces)
         }
         other => {
-            let con = ordered(alloc, other)?;
+            let mut con = other;
+            ordered(alloc, &mut con)?;
             add_piece(alloc, con, pieces)
         }
     }
@@ -94,9 +113,12 @@ fn field_pieces(
     ensures { OnOk result (map piece_tree pieces.new.items ≡ map piece_tree pieces.old.items ++ fields_apart (kind_tree k.now) (pairs_tree fields)) }
 {
     for field in fields.items {
-        let Pair { name, value } = field;
-        let name = ordered(alloc, name)?;
-        let value = ordered(alloc, value)?;
+        let Pair {
+            mut name,
+            mut value,
+        } = field;
+        ordered(alloc, &mut name)?;
+        ordered(alloc, &mut value)?;
         let con = single(alloc, k, Pair { name, value })?;
         add_piece(alloc, con, pieces)?;
     }
@@ -106,7 +128,7 @@ fn field_pieces(
 fn single(alloc: Global, k: &Kind, field: Pair) -> Result<Con, AllocError>
     ensures { IfOk result (λ c. con_tree c ≡ row (kind_tree k.now) (pair (pair_tree field).0 (pair_tree field).1 no_pairs)) }
 {
-    let mut items = Vec::new(alloc);
+    let mut items = Vec::with_capacity(alloc, 1)?;
     items.push(field)?;
     let kind = Box::new(alloc, copy_kind(alloc, k)?)?;
     Ok(Con::Row(kind, Pairs { items }))

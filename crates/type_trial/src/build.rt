@@ -5,14 +5,23 @@ use con_terms::kind::Kind;
 use con_terms::symbol::Sym;
 use std::alloc::{AllocError, Global};
 
+/// The name of `int`.
+pub const INT_NAME: Sym = Sym { number: 100 };
+
 /// `int`
-pub const INT: Con = Con::Basic(Sym { number: 100 });
+pub const INT: Con = Con::Basic(INT_NAME);
+
+/// The name of `string`.
+pub const STRING_NAME: Sym = Sym { number: 101 };
 
 /// `string`
-pub const STRING: Con = Con::Basic(Sym { number: 101 });
+pub const STRING: Con = Con::Basic(STRING_NAME);
+
+/// The name of `option`.
+pub const OPTION_NAME: Sym = Sym { number: 102 };
 
 /// `option`
-pub const OPTION: Con = Con::Basic(Sym { number: 102 });
+pub const OPTION: Con = Con::Basic(OPTION_NAME);
 
 /// `list`
 pub const LIST: Con = Con::Basic(Sym { number: 103 });
@@ -24,6 +33,28 @@ fn types(alloc: Global) -> Result<Box<Kind>, AllocError> {
 /// `f a`
 pub fn app(alloc: Global, f: Con, a: Con) -> Result<Con, AllocError> {
     Ok(Con::App(Box::new(alloc, f)?, Box::new(alloc, a)?))
+}
+
+/// `a -> b`
+pub fn arrow(alloc: Global, a: Con, b: Con) -> Result<Con, AllocError> {
+    Ok(Con::Arrow(Box::new(alloc, a)?, Box::new(alloc, b)?))
+}
+
+/// `x :: k -> b`
+pub fn poly(alloc: Global, k: Kind, b: Con) -> Result<Con, AllocError> {
+    Ok(Con::Poly(false, Box::new(alloc, k)?, Box::new(alloc, b)?))
+}
+
+/// `[a ~ b] => c`
+pub fn guarded(alloc: Global, a: Con, b: Con, c: Con) -> Result<Con, AllocError> {
+    let left = Box::new(alloc, a)?;
+    let right = Box::new(alloc, b)?;
+    Ok(Con::Guarded(left, right, Box::new(alloc, c)?))
+}
+
+/// The component of `c` with this number, the first having 0.
+pub fn proj(alloc: Global, c: Con, number: u32) -> Result<Con, AllocError> {
+    Ok(Con::Proj(Box::new(alloc, c)?, number))
 }
 
 /// `fn x :: Type => b`
@@ -59,6 +90,25 @@ pub fn field(alloc: Global, name: u32, value: Con) -> Result<Con, AllocError> {
         name: Con::Name(Sym { number: name }),
         value,
     })?;
+    Ok(Con::Row(types(alloc)?, fields))
+}
+
+/// The literal of this kind with one field.
+pub fn row(alloc: Global, kind: Kind, name: Con, value: Con) -> Result<Con, AllocError> {
+    let mut fields = Pairs::new(alloc);
+    fields.push(Pair { name, value })?;
+    Ok(Con::Row(Box::new(alloc, kind)?, fields))
+}
+
+/// The literal of two fields of type `int`, whose names are the symbols of these numbers.
+pub fn row_of_two(alloc: Global, first: u32, second: u32) -> Result<Con, AllocError> {
+    let mut fields = Pairs::new(alloc);
+    for number in [first, second] {
+        fields.push(Pair {
+            name: Con::Name(Sym { number }),
+            value: INT,
+        })?;
+    }
     Ok(Con::Row(types(alloc)?, fields))
 }
 

@@ -126,14 +126,26 @@ fn rows_of_records_in_either_order(rt: HostRuntime) -> Result<(), Fail> {
 }
 
 #[test]
-fn a_normal_form_may_step_again(rt: HostRuntime) -> Result<(), Fail> {
+fn a_step_that_eta_makes_is_taken(rt: HostRuntime) -> Result<(), Fail> {
     let alloc = rt.alloc();
-    // map (fn x => fn y => x y) r: the function becomes the identity by eta, behind all steps
+    // map (fn x => fn y => x y) r: the function becomes the identity by eta
     let long = lambda(alloc, lambda(alloc, app(alloc, Con::Var(1), Con::Var(0))?)?)?;
     let (first, took) = normal_of(alloc, &map(alloc, long, Con::Var(0))?)?;
-    assert_eq!(rt; took, 0);
-    let (second, took) = normal_of(alloc, &con_of(alloc, &first)?)?;
     assert_eq!(rt; took, 1);
+    assert!(rt; matches!(con_of(alloc, &first)?, Con::Var(0)));
+    let (second, took) = normal_of(alloc, &con_of(alloc, &first)?)?;
+    assert_eq!(rt; took, 0);
     assert!(rt; matches!(con_of(alloc, &second)?, Con::Var(0)));
+    Ok(())
+}
+
+#[test]
+fn an_eta_redex_that_order_makes_is_removed(rt: HostRuntime) -> Result<(), Fail> {
+    let alloc = rt.alloc();
+    // fn x => f ([] ++ x)
+    let row = cat(alloc, empty(alloc)?, Con::Var(0))?;
+    let (n, took) = normal_of(alloc, &lambda(alloc, app(alloc, Con::Var(1), row)?)?)?;
+    assert_eq!(rt; took, 0);
+    assert!(rt; matches!(con_of(alloc, &n)?, Con::Var(0)));
     Ok(())
 }

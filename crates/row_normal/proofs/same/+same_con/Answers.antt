@@ -1,8 +1,6 @@
-use Rattle.std.proofs.Common.{◌≡◌, ◌<◌, ◌≤◌, ◌&&◌, true, length, sym, ◌∙◌, arith, rules, vec_len}
+use Rattle.std.proofs.Common.{◌≡◌, ◌<◌, ◌≤◌, true, length, sym, ◌∙◌, arith, rules}
 use Rattle.con_terms.specs.declared.con.Con.TheViews.{out-Cons, out-Pairs}
 use Rattle.row_normal.proofs.SameTrees.{cons_differ, pairs_differ, prs_eq_more, prs_eq_end}
-use Rattle.con_terms.specs.View.{pair_tree}
-use Rattle.row_normal.specs.SameTree.{cn_eq}
 use Rattle.row_normal.proofs.same.+same_con.Goals as goal
 
 pub same_each-returns-then-len : goal.same_each-returns-then-len
