@@ -187,13 +187,13 @@ marked items mark wanted (w ∷ ws) x e is fits lead c roomy =
     let d = and_right (every (behind w.part) (nexts (parts_of ws) (x ∷ []))) (calm (parts_of ws) (x ∷ [])) c in
     marked_at items mark wanted w.part w.room w.tag ws x e is fits lead (λ e'. marked items mark wanted ws x e' is fits lead d roomy.1) b d roomy.1
 
-record Found (items : List Token) (i : ℕ) (y : Kind) : Type 0 where
+pub record Found (items : List Token) (i : ℕ) (y : Kind) : Type 0 where
   pub token : Token
   pub is : drop i items ≡ token ∷ drop (suc i) items
   pub kind : token.kind ≡ y
   pub within : suc i ≤ length items
 
-token_at : (items : List Token) (i : ℕ) (y : Kind) → first_kind (drop i items) ≡ Some y → Found items i y
+pub token_at : (items : List Token) (i : ℕ) (y : Kind) → first_kind (drop i items) ≡ Some y → Found items i y
 token_at [] zero y e = cc
 token_at [] (suc i) y e = cc
 token_at (t ∷ ts) zero y e = record { token = t; is = refl; kind = cc; within = omega arith }

@@ -326,7 +326,7 @@ end_turn x flat a b c e = outside_stops x c (not_true (outside x true) e)
 pub end_scan : (t : Token) (ts : List Token) → ends_at t.kind ≡ true → scan 0 (t ∷ ts) ≡ false
 end_scan t ts e = end_turn t.kind (turn_of t.kind) (scan 1 ts) (scan 0 ts) (scan 0 ts) e
 
-or_split : {A : Type 0} (b c : Bool) → (b || c) ≡ true → (b ≡ true → A) → (c ≡ true → A) → A
+pub or_split : {A : Type 0} (b c : Bool) → (b || c) ≡ true → (b ≡ true → A) → (c ≡ true → A) → A
 or_split true c h l r = l refl
 or_split false c h l r = r h
 
@@ -346,7 +346,7 @@ each_ends : (ns : Nodes) (g : Form) (room : ℕ) (name : Content) (x : Option Ki
 each_ends none g room name x text fit e h = h
 each_ends (more n ns) g room name x text fit e h = ap (scan 0) (append_assoc (spell n) (spell_all ns) text) ∙ led_ends n g room name (front (spell_all ns) x) (spell_all ns ++ text) fit.0 e
 
-next_part : (n : Node) (p : Part) (ps : List Part) (e : Bool) (room : ℕ) (name : Content) (x : Option Kind) (text : List Token) → Fits room name n p x → ends_next e (p ∷ ps) ≡ true → (ends_next e ps ≡ true → scan 0 text ≡ false) → scan 0 (spell n ++ text) ≡ false
+pub next_part : (n : Node) (p : Part) (ps : List Part) (e : Bool) (room : ℕ) (name : Content) (x : Option Kind) (text : List Token) → Fits room name n p x → ends_next e (p ∷ ps) ≡ true → (ends_next e ps ≡ true → scan 0 text ≡ false) → scan 0 (spell n ++ text) ≡ false
 next_part n (Word w) ps e room name x text fit h later =
     let l = leafed room name n w x fit in
     ap (λ z. scan 0 (z ++ text)) l.spelled ∙ end_scan l.token text (accepted ends_at w l.token.kind refl refl refl l.ok ∙ h)
@@ -416,7 +416,7 @@ marked_node (branch q ns) f.ConParenEnd room name x text i fit h = marked_rule q
 marked_node (branch q ns) g room name x text i fit h = cc
 
 -- a tree of a form that `::` doesn't begin doesn't begin with it
-led_colon : {A : Type 0} (n : Node) (g : Form) (room : ℕ) (name : Content) (x : Option Kind) (text : List Token) → Fits room name n (One g) x → not (begins g (Some k.DoubleColon)) ≡ true → first_kind (spell n ++ text) ≡ Some k.DoubleColon → A
+pub led_colon : {A : Type 0} (n : Node) (g : Form) (room : ℕ) (name : Content) (x : Option Kind) (text : List Token) → Fits room name n (One g) x → not (begins g (Some k.DoubleColon)) ≡ true → first_kind (spell n ++ text) ≡ Some k.DoubleColon → A
 led_colon n g room name x text fit lacks h =
     let l = node_led n g room name x fit in
     let first : Some l.token.kind ≡ Some k.DoubleColon = sym (ap (λ z. first_kind (z ++ text)) l.is) ∙ h in
@@ -458,7 +458,7 @@ next_marks (more n ns) (p ∷ ps) c room name x text fit lacks after h =
     subst MarkedText (sym (append_assoc (spell n) (spell_all ns) text))
     (colon_part n p ps c room name (front (spell_all ns) x) (spell_all ns ++ text) fit.0 lacks (λ i j. next_marks ns ps c room name x text fit.1 i after j) (ap first_kind (sym (append_assoc (spell n) (spell_all ns) text)) ∙ h))
 
-unless : (a b : Bool) → (not a || b) ≡ true → a ≡ true → b ≡ true
+pub unless : (a b : Bool) → (not a || b) ≡ true → a ≡ true → b ≡ true
 unless true b h e = h
 unless false b h e = cc
 

@@ -13,6 +13,7 @@ pub mod Sound
 pub mod Filling
 pub mod Levels
 pub mod Allowing
+pub mod Splicing
 pub mod Readies
 pub mod Low
 pub mod Whole
@@ -25,3 +26,18 @@ pub mod Context
 pub mod ListFronts
 pub mod TextParts
 pub mod Sole
+pub mod Roomier
+pub mod Least
+pub mod Agreeing
+pub mod Steps
+pub mod Trailing
+pub mod Racing
+pub mod Raced
+pub mod Roomy
+pub mod Going
+pub mod Naming
+pub mod Exact
+pub mod Passed
+pub mod Ways
+pub mod Refusing
+pub mod Refusals

@@ -1,5 +1,5 @@
 -- An expression that begins with `[` begins with the empty list.
-use Rattle.std.proofs.Common.{◌≡◌, ℕ, List, [], ◌∷◌, ◌++◌, append_assoc, refl, ap, sym, ◌∙◌, subst, Bool, true, false, not, ◌||◌, Option, Some}
+use Rattle.std.proofs.Common.{◌≡◌, ℕ, List, [], ◌∷◌, ◌++◌, drop, append_assoc, refl, ap, sym, ◌∙◌, subst, Bool, true, false, not, ◌||◌, Option, Some}
 use Rattle.std.proofs.Math.Logic.{inl, inr}
 use Rattle.surface_tree.specs.declared.kind.Kind.{Kind}
 use Rattle.surface_tree.specs.declared.kind.Kind.TheVariants as k
@@ -11,6 +11,7 @@ use Rattle.surface_grammar.specs.declared.part.Part.{Part}
 use Rattle.surface_grammar.specs.declared.part.Part.TheVariants.{Word, One, Many, Maybe}
 use Rattle.surface_grammar.specs.declared.rule.Rule.{Rule}
 use Rattle.surface_grammar.specs.Forms.{rules_of}
+use Rattle.surface_grammar.specs.Fronts.{first_kind}
 use Rattle.surface_grammar.specs.Table.{body_of}
 use Rattle.surface_grammar.specs.Trees.{Node, branch, leaf, several, absent, present, Nodes, spell, spell_all, front, begins, IsIn, Fits, FitsAll}
 use Rattle.grammar_engine.proofs.Context.{headed, leafed}
@@ -293,3 +294,59 @@ splices_apart ms ns room space name other x y after behind fit fits is =
     let a = headed room name ms (One f.Splice) (Word k.RightBrace ∷ []) x fit in
     splice_node a.head ns room space name other (front (spell_all a.tail) x) y (spell_all a.tail ++ after) behind a.fits fits
     (sym (append_assoc (spell a.head) (spell_all a.tail) after) ∙ ap (λ z. z ++ after) (sym a.spelled) ∙ is)
+
+second_right : (text : List Token) → lists text ≡ true → first_kind text ≡ Some k.LeftBracket → first_kind (drop 1 text) ≡ Some k.RightBracket
+second_right [] h e = cc
+second_right (t ∷ text) h e = by_rest text (sym (ap (λ z. lists_at z (right_first text)) (some_same t.kind k.LeftBracket e)) ∙ h)
+  where
+    some_same : (x y : Kind) → Some x ≡ Some y → x ≡ y
+    some_same x y i = cc
+
+    by_rest : (us : List Token) → right_first us ≡ true → first_kind us ≡ Some k.RightBracket
+    by_rest [] i = cc
+    by_rest (u ∷ us) i = ap Some (right_is u.kind i)
+
+-- an expression that begins with `[` goes on with `]`
+pub list_second : (n : Node) (room : ℕ) (name : Content) (x : Option Kind) (rest : List Token) → Fits room name n (One f.Exp) x → first_kind (spell n ++ rest) ≡ Some k.LeftBracket → first_kind (drop 1 (spell n ++ rest)) ≡ Some k.RightBracket
+list_second n room name x rest fit e = second_right (spell n ++ rest) (gather Listed list_step n f.Exp room name x fit refl rest) e
+
+-- a spliced value begins with `[`, and doesn't go on with `]`
+pub record SpliceFront (text : List Token) : Type 0 where
+  pub opens : first_kind text ≡ Some k.LeftBracket
+  pub second : first_kind (drop 1 text) ≡ Some k.RightBracket → ⊥
+
+splice_front : (q : Rule) (ns : Nodes) (room : ℕ) (name : Content) (x : Option Kind) (text : List Token) → IsIn q (rules_of f.Splice) → FitsAll room name ns (body_of q) x → SpliceFront (spell_all ns ++ text)
+splice_front q ns room name x text (inl e) fit =
+    let a = headed room name ns (Word k.LeftBracket) (One f.Exp ∷ Word k.RightBracket ∷ []) x (subst (λ z. FitsAll room name ns (body_of z) x) e fit) in
+    let l = leafed room name a.head k.LeftBracket (front (spell_all a.tail) x) a.fits in
+    let b = headed room name a.tail (One f.Exp) (Word k.RightBracket ∷ []) x a.others in
+    let m = node_led b.head f.Exp room name (front (spell_all b.tail) x) b.fits in
+    let is : spell_all ns ++ text ≡ l.token ∷ (m.token ∷ ((m.rest ++ spell_all b.tail) ++ text)) =
+    ap (λ z. z ++ text) (a.spelled ∙ ap (λ z. z ++ spell_all a.tail) l.spelled ∙ ap (λ z. l.token ∷ z) (b.spelled ∙ ap (λ z. z ++ spell_all b.tail) m.is)) in
+    record {
+      opens = ap first_kind is ∙ ap Some (exact k.LeftBracket l.token.kind refl l.ok);
+      second = λ h. not_begun m.token.kind m.passes (sym (ap (λ z. first_kind (drop 1 z)) is) ∙ h);
+    }
+  where
+    not_begun : (y : Kind) → begins f.Exp (Some y) ≡ true → Some y ≡ Some k.RightBracket → ⊥
+    not_begun y h e = let wrong : begins f.Exp (Some k.RightBracket) ≡ true = ap (begins f.Exp) (sym e) ∙ h in cc
+splice_front q ns room name x text (inr e) fit = absurd e
+
+splice_front_node : (n : Node) (room : ℕ) (name : Content) (x : Option Kind) (text : List Token) → Fits room name n (One f.Splice) x → SpliceFront (spell n ++ text)
+splice_front_node (leaf t) room name x text fit = absurd fit
+splice_front_node (several ns) room name x text fit = absurd fit
+splice_front_node absent room name x text fit = absurd fit
+splice_front_node (present n) room name x text fit = absurd fit
+splice_front_node (branch q ns) room name x text fit = splice_front q ns fit.0 fit.1 x text fit.2.rule fit.3
+
+pub splice_begins : (ns : Nodes) (room : ℕ) (name : Content) (x : Option Kind) (text : List Token) → FitsAll room name ns (One f.Splice ∷ Word k.RightBrace ∷ []) x → SpliceFront (spell_all ns ++ text)
+splice_begins ns room name x text fit =
+    let a = headed room name ns (One f.Splice) (Word k.RightBrace ∷ []) x fit in
+    subst SpliceFront (sym (ap (λ z. z ++ text) a.spelled ∙ append_assoc (spell a.head) (spell_all a.tail) text)) (splice_front_node a.head room name (front (spell_all a.tail) x) (spell_all a.tail ++ text) a.fits)
+
+pub exp_begins : (ns : Nodes) (room : ℕ) (name : Content) (x : Option Kind) (text : List Token) → FitsAll room name ns (One f.Exp ∷ Word k.RightBrace ∷ []) x → first_kind (spell_all ns ++ text) ≡ Some k.LeftBracket
+    → first_kind (drop 1 (spell_all ns ++ text)) ≡ Some k.RightBracket
+exp_begins ns room name x text fit e =
+    let a = headed room name ns (One f.Exp) (Word k.RightBrace ∷ []) x fit in
+    let is : spell_all ns ++ text ≡ spell a.head ++ (spell_all a.tail ++ text) = ap (λ z. z ++ text) a.spelled ∙ append_assoc (spell a.head) (spell_all a.tail) text in
+    ap (λ z. first_kind (drop 1 z)) is ∙ list_second a.head room name (front (spell_all a.tail) x) (spell_all a.tail ++ text) a.fits (sym (ap first_kind is) ∙ e)

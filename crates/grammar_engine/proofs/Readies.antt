@@ -25,6 +25,7 @@ use Rattle.grammar_engine.proofs.Calm.{nexts, follows, behind, calm, fits_room, 
 use Rattle.grammar_engine.proofs.Filling.{rule_calm, rule_rooms, filled, tail_more_room}
 use Rattle.grammar_engine.proofs.Grown.{Grows}
 use Rattle.grammar_engine.proofs.Ranks.{and_left, and_right, every}
+use Rattle.grammar_engine.proofs.Splicing.{splice_allowed}
 
 -- the part that is met next, before what stays
 abbrev pub want : Part → ℕ → ℕ → Want
@@ -38,6 +39,7 @@ beside_allowed : (items : List Token) (p : Part) (at room here place space tag :
     → Grows items p at room (drop here items) (want q space tag ∷ ws) a.tree.leaves a.tree.marks → drop at items ≡ a.tree.leaves ++ drop here items
     → Ready items p at room here here (want q space tag ∷ ws) → Beside items q space here ws place → AllowedAt items p at room place
 beside_allowed items p at room here place space tag (One f.Exp) ws a grows read ready b = bind_allowed items p at room here place space tag ws a.tree.leaves a.tree.marks grows read ready b.0 b.1
+beside_allowed items p at room here place space tag (One f.SqlBraceRest) ws a grows read ready b = splice_allowed items p at room here place space tag ws a.tree.leaves a.tree.marks grows read ready b.0 b.1 b.2
 beside_allowed items p at room here place space tag (Maybe f.ConForall) ws a grows read ready b = kind_allowed items p at room here place space tag ws a.tree.leaves a.tree.marks grows read ready b
 beside_allowed items p at room here place space tag q ws a grows read ready b = absurd b
 
@@ -70,7 +72,7 @@ tail_rule : (room tag : ℕ) (ps : List Part) (ws : List Want) → tail_rooms ro
 tail_rule room tag [] ws h r = roomy_tail ws r
 tail_rule room tag (p ∷ ps) ws h r = roomy_rule room tag ps ws h r
 
-parts_append : (room tag : ℕ) (ps : List Part) (ws : List Want) → parts_of (wants_of room tag ps ++ ws) ≡ ps ++ parts_of ws
+pub parts_append : (room tag : ℕ) (ps : List Part) (ws : List Want) → parts_of (wants_of room tag ps ++ ws) ≡ ps ++ parts_of ws
 parts_append room tag [] ws = refl
 parts_append room tag (p ∷ ps) ws = ap (λ l. p ∷ l) (parts_append room tag ps ws)
 
@@ -148,7 +150,7 @@ pub ready_meets : (items : List Token) (p : Part) (at room space tag : ℕ) (q :
 ready_meets items p at room space tag q a c s raised grows read d =
     ready_part items p at room space tag q a c s grows read d (raised_allowed items p at room space tag c.far q a grows read d raised)
 
-first_quiet : (p : Part) (x : Option Kind) → may_stand_behind p x ≡ true → behind p x ≡ true
+pub first_quiet : (p : Part) (x : Option Kind) → may_stand_behind p x ≡ true → behind p x ≡ true
 first_quiet (Word w) x e = refl
 first_quiet (One g) None e = refl
 first_quiet (Many g) None e = refl

@@ -47,11 +47,11 @@ or_first : (b : Bool) → (b || false) ≡ true → b ≡ true
 or_first true h = refl
 or_first false h = h
 
-arrow : (x : Kind) → begins f.ExpBindRest (Some x) ≡ true → x ≡ k.LeftArrow
+pub arrow : (x : Kind) → begins f.ExpBindRest (Some x) ≡ true → x ≡ k.LeftArrow
 arrow x h = exact k.LeftArrow x refl (or_first (accept k.LeftArrow x) h)
 
 -- a binding is no other expression, where the scan stops at what follows
-bind_clash : {A : Type 0} (ns os : Nodes) (after behind : List Token) (inner inside : ℕ) (own mine : Content) → FitsAll inner own ns (One f.Pat ∷ One f.ExpBindRest ∷ []) (first_kind after)
+pub bind_clash : {A : Type 0} (ns os : Nodes) (after behind : List Token) (inner inside : ℕ) (own mine : Content) → FitsAll inner own ns (One f.Pat ∷ One f.ExpBindRest ∷ []) (first_kind after)
     → FitsAll inside mine os (One f.Term ∷ Maybe f.ExpThen ∷ []) (first_kind behind) → spell_all ns ++ after ≡ spell_all os ++ behind → scan 0 behind ≡ false → A
 bind_clash ns os after behind inner inside own mine fit fit' e quiet =
     let a = headed inner own ns (One f.Pat) (One f.ExpBindRest ∷ []) (first_kind after) fit in
@@ -127,20 +127,20 @@ option_tidy : (g : Form) (room : ℕ) (name : Content) (text : List Token) → T
 option_tidy g room name text t = record { e = t.e; c = t.c; ps = t.ps; ns = t.ns; next = t.next; rest = t.rest; fits = t.fits; next_is = t.next_is; is = t.is; ok = t.ok; ends = t.ends; marks = t.marks }
 
 -- only one option is open, and no repetition of it is tidy
-open_is : (g : Form) (x : Option Kind) → is_open g x ≡ true → (g ≡ f.ConForall) × (x ≡ Some k.DoubleColon)
+pub open_is : (g : Form) (x : Option Kind) → is_open g x ≡ true → (g ≡ f.ConForall) × (x ≡ Some k.DoubleColon)
 open_is f.ConForall (Some k.DoubleColon) h = (refl, refl)
 open_is f.ConForall None h = cc
 open_is f.ConForall (Some x) h = cc
 open_is g x h = cc
 
-not_many : {A : Type 0} (e c : Bool) (ps : List Part) (g : Form) → g ≡ f.ConForall → part_ok e c (Many g) ps ≡ true → A
+pub not_many : {A : Type 0} (e c : Bool) (ps : List Part) (g : Form) → g ≡ f.ConForall → part_ok e c (Many g) ps ≡ true → A
 not_many e c ps g i h = wrong (subst (λ z. part_ok e c (Many z) ps ≡ true) i h)
   where
     wrong : {A : Type 0} → part_ok e c (Many f.ConForall) ps ≡ true → A
     wrong h = cc
 
 -- the open option is there, or a kind and `)` follow: not both
-forall_rule : {A : Type 0} (q : Rule) (ns : Nodes) (room : ℕ) (name : Content) (after behind : List Token) → IsIn q (rules_of f.ConForall) → FitsAll room name ns (body_of q) (first_kind after) → spell_all ns ++ after ≡ behind → first_kind behind ≡ Some k.DoubleColon → MarkedText behind → A
+pub forall_rule : {A : Type 0} (q : Rule) (ns : Nodes) (room : ℕ) (name : Content) (after behind : List Token) → IsIn q (rules_of f.ConForall) → FitsAll room name ns (body_of q) (first_kind after) → spell_all ns ++ after ≡ behind → first_kind behind ≡ Some k.DoubleColon → MarkedText behind → A
 forall_rule q ns room name after behind (inl e) fit is colons m =
     let a = headed room name ns (Word k.DoubleColon) (One f.KindAtom ∷ Word k.Arrow ∷ One f.Con ∷ []) (first_kind after) (subst (λ z. FitsAll room name ns (body_of z) (first_kind after)) e fit) in
     let l = leafed room name a.head k.DoubleColon (front (spell_all a.tail) (first_kind after)) a.fits in
@@ -268,21 +268,21 @@ mutual
       let others = same_each ns os g after behind room space name other f.1 f'.1 first.rest u1 u2 in
       record { trees = ap (λ z. more z ns) first.tree ∙ ap (more o) others.trees; rest = others.rest }
 
+both_or : (a b : Bool) → ((a || true) && (b || true)) ≡ true
+both_or true true = refl
+both_or true false = refl
+both_or false true = refl
+both_or false false = refl
+
+pub part_whole : (p : Part) → is_text_part p ≡ true → part_ok true true p [] ≡ true
+part_whole (Word w) h = refl
+part_whole (One g) h = both_or (not (is_exp_tail g)) (not (is_con_tail g))
+part_whole (Many g) h = many_whole g h
+part_whole (Maybe g) h = both_or (not (is_exp_tail g)) (not (is_con_tail g))
+
 -- nothing behind a whole text is tidy
 whole_tidy : (p : Part) (room : ℕ) (name : Content) → is_text_part p ≡ true → Tidy room name p []
 whole_tidy p room name h = record { e = true; c = true; ps = []; ns = none; next = None; rest = []; fits = tt; next_is = refl; is = refl; ok = part_whole p h; ends = λ i. refl; marks = λ i j. cc }
-  where
-    both : (a b : Bool) → ((a || true) && (b || true)) ≡ true
-    both true true = refl
-    both true false = refl
-    both false true = refl
-    both false false = refl
-
-    part_whole : (p : Part) → is_text_part p ≡ true → part_ok true true p [] ≡ true
-    part_whole (Word w) h = refl
-    part_whole (One g) h = both (not (is_exp_tail g)) (not (is_con_tail g))
-    part_whole (Many g) h = many_whole g h
-    part_whole (Maybe g) h = both (not (is_exp_tail g)) (not (is_con_tail g))
 
 pub one_whole : (p : Part) (n o : Node) (room space : ℕ) (name other : Content) → is_text_part p ≡ true → Fits room name n p None → Fits space other o p None → spell n ≡ spell o → n ≡ o
 one_whole p n o room space name other h fit fit' e = (same_node n o p [] [] room space name other fit fit' (ap (λ z. z ++ []) e) (whole_tidy p room name h) (whole_tidy p space other h)).tree

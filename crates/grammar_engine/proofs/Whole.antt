@@ -15,7 +15,7 @@ use Rattle.grammar_engine.proofs.Calm.{fill_part, shortest}
 use Rattle.grammar_engine.proofs.Filling.{accept_self, short, short_fits}
 use Rattle.grammar_engine.proofs.Low.{need_low}
 
-exists : (room : ℕ) (name : Content) (p : Part) → 2 ≤ room → Fits room name (fill_part (shortest 24 name) name p) p None
+pub exists : (room : ℕ) (name : Content) (p : Part) → 2 ≤ room → Fits room name (fill_part (shortest 24 name) name p) p None
 exists room name (Word w) l = (accept_self w, λ i. refl)
 exists room name (One g) l = short_fits 24 name g room None (short g).high refl (omega (arith, l, need_low g))
 exists room name (Many g) l = refl

@@ -44,9 +44,10 @@ pub record MarksKind (items : List Token) (at : ℕ) (wants : List Want) (place 
   pub mark : first_kind (drop at items) ≡ Some k.DoubleColon
   pub allowed : AllowedAt items (One f.KindTerm) (suc at) want.room place
 
--- another way of reading the part, which is tried beside, comes up to the place
+-- another way of reading the part, which is tried beside, comes up to the place; in braces of a query `[` begins a tree
 abbrev pub Beside : List Token → Part → ℕ → ℕ → List Want → ℕ → Type 0
 Beside items (One f.Exp) room at wants place = (0 < room) × AllowedAt items (One f.Pat) at room place
+Beside items (One f.SqlBraceRest) room at wants place = (0 < room) × (first_kind (drop at items) ≡ Some k.LeftBracket) × (place ≡ suc at)
 Beside items (Maybe f.ConForall) room at wants place = MarksKind items at wants place
 Beside items _ room at wants place = ⊥
 

@@ -7,7 +7,10 @@ pub mod Moves
 pub mod Reads
 pub mod Faults
 pub mod Growing
-pub mod Stuck
 pub mod Laws
+pub mod Stuck
 pub mod Choices
 pub mod Single
+pub mod Leaving
+pub mod Passing
+pub mod Exact

@@ -9,9 +9,9 @@ use Rattle.surface_grammar.specs.declared.rule.Rule.{Rule}
 use Rattle.surface_grammar.specs.declared.tree.Mark.TheVariants as m
 use Rattle.surface_grammar.specs.Forms.{rules_of}
 use Rattle.surface_grammar.specs.Fronts.{first_kind}
-use Rattle.surface_grammar.specs.Sides.{bars_of, is_tag}
+use Rattle.surface_grammar.specs.Sides.{bars_of, is_element, is_tag}
 use Rattle.surface_grammar.specs.Table.{body_of}
-use Rattle.surface_grammar.specs.Trees.{Built, IsIn, among, must_go_on}
+use Rattle.surface_grammar.specs.Trees.{Built, IsIn, among, begins, must_go_on}
 use Rattle.surface_grammar.specs.Words.{accept}
 use Rattle.grammar_engine.specs.declared.want.Want.{Want}
 use Rattle.grammar_engine.specs.declared.machine.Machine.{Machine}
@@ -45,6 +45,7 @@ pub record Expands (items : List Token) (g : Form) (room tag : ℕ) (a b : Machi
   pub own : ℕ
   pub built : Built room inner (name_at items tag) (name_at items own) rule g (first_kind (drop a.at items))
   pub roomy : least_of rule ≤ room
+  pub opened : is_element rule ≡ true → own ≡ a.at
   pub at : b.at ≡ a.at
   pub wants : b.wants ≡ wants_of inner own (body_of rule) ++ a.wants
   pub leaves : b.tree.leaves ≡ a.tree.leaves
@@ -55,11 +56,12 @@ abbrev pub goes_by : Bool → Form → ℕ → ℕ → List Want → Machine →
 goes_by true g room tag rest a b = (b.wants ≡ record { part = One g; room = room; tag = tag } ∷ rest ++ a.wants) × (b.tree.marks ≡ a.tree.marks ++ m.Item ∷ [])
 goes_by false g room tag rest a b = (b.wants ≡ a.wants) × (b.tree.marks ≡ a.tree.marks ++ m.End ∷ [])
 
--- a repetition or an option goes on, or ends where it doesn't have to go on
+-- a repetition or an option goes on where the token begins its form, or ends where it doesn't have to go on
 pub record Goes (items : List Token) (g : Form) (room tag : ℕ) (rest : List Want) (a b : Machine) : Type 0 where
   pub taken : Bool
   pub by : goes_by taken g room tag rest a b
   pub sure : taken ≡ false → must_go_on g (first_kind (drop a.at items)) ≡ false
+  pub begun : taken ≡ true → begins g (first_kind (drop a.at items)) ≡ true
   pub at : b.at ≡ a.at
   pub leaves : b.tree.leaves ≡ a.tree.leaves
 

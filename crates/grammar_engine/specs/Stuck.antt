@@ -17,18 +17,20 @@ use Rattle.surface_grammar.specs.Words.{accept}
 use Rattle.grammar_engine.specs.declared.stop.Stop.{Stop}
 use Rattle.grammar_engine.specs.declared.stop.Stop.TheVariants.{Refused, Memory}
 use Rattle.grammar_engine.specs.declared.want.Want.{Want}
+use Rattle.grammar_engine.specs.Blocks.{StartedBy}
 use Rattle.grammar_engine.specs.Faults.{byte_at}
 use Rattle.grammar_engine.specs.Growing.{Grows}
+use Rattle.grammar_engine.specs.Laws.{is_raced_form}
 use Rattle.grammar_engine.specs.Moves.{Chosen}
 use Rattle.grammar_engine.specs.Places.{name_at}
 use Rattle.grammar_engine.specs.Reads.{Reads}
 use Rattle.grammar_engine.specs.Rooms.{least_of}
 
 -- the part can't begin with the next token: it is a word for which the token doesn't stand, or a form that the token
--- doesn't begin, or for whose rule there is no room; a repetition and an option never stand in the way
+-- doesn't begin, or for whose one rule there is no room; a repetition and an option never stand in the way
 abbrev pub Blocked : List Token → Part → ℕ → ℕ → ℕ → Type 0
 Blocked items (Word w) room tag at = (t : Token) (rest : List Token) → drop at items ≡ t ∷ rest → accept w t.kind ≡ true → (is_tag w ≡ true → t.content ≡ name_at items tag) → ⊥
-Blocked items (One g) room tag at = (begins g (first_kind (drop at items)) ≡ false) ⊎ ((q : Rule) × Chosen g (first_kind (drop at items)) q × (room < least_of q))
+Blocked items (One g) room tag at = (begins g (first_kind (drop at items)) ≡ false) ⊎ ((q : Rule) × Chosen g (first_kind (drop at items)) q × StartedBy (first_kind (drop at items)) q × (is_raced_form g ≡ false) × (room < least_of q))
 Blocked items (Many g) room tag at = ⊥
 Blocked items (Maybe g) room tag at = ⊥
 

@@ -3,6 +3,7 @@ ghost use Rattle.std.specs.Prelude.{◌≡◌, true};
 ghost use Rattle.surface_tree.specs.declared.kind.Kind.{Kind};
 ghost use Rattle.surface_grammar.specs.declared.form.Form.{Form};
 ghost use Rattle.grammar_engine.specs.Choices.{OneTree};
+ghost use Rattle.grammar_engine.specs.Exact.{OneRefusal, TreesAreNotRefused};
 ghost use Rattle.grammar_engine.specs.Laws.{one_token_decides};
 ghost use Rattle.grammar_engine.specs.Single.{OneWholeTree};
 
@@ -21,4 +22,14 @@ pub fn one_tree()
 /// Two trees of a whole text that spell the same tokens are one tree.
 pub fn one_whole_tree()
     ensures { OneWholeTree }
+{}
+
+/// A text is refused at one byte, and for want of depth or not: no two refusals are right.
+pub fn one_refusal()
+    ensures { OneRefusal }
+{}
+
+/// A text with a tree has no refusal.
+pub fn trees_are_not_refused()
+    ensures { TreesAreNotRefused }
 {}

@@ -1,11 +1,12 @@
 //! The state of reading, and its steps.
-ghost use Rattle.std.specs.Prelude.{◌≡◌, ◌≤◌, ◌++◌, ◌∷◌, [], ◌<◌, ◌≢◌, length, drop, max, false, OnOk, IfOk, IfErr, IfSome, IfNone, IsTrue, IsFalse};
+ghost use Rattle.std.specs.Prelude.{◌≡◌, ◌≤◌, ◌++◌, ◌∷◌, [], ◌<◌, ◌≢◌, length, drop, max, true, false, OnOk, IfOk, IfErr, IfSome, IfNone, IsTrue, IsFalse};
 ghost use Rattle.surface_grammar.specs.Fronts.{first_kind};
 ghost use Rattle.surface_grammar.specs.Table.{body_of};
 ghost use Rattle.surface_grammar.specs.Trees.{begins, depth_of, must_go_on};
 ghost use Rattle.grammar_engine.specs.Allowed.{RefusedHere};
 ghost use Rattle.grammar_engine.specs.Blocks.{Cramped, StartedBy, TakeBlocked};
 ghost use Rattle.grammar_engine.specs.Moves.{Begun, Chosen, Expands, Goes, Takes, wants_of};
+ghost use Rattle.grammar_engine.specs.Passing.{Marked};
 ghost use Rattle.grammar_engine.specs.Places.{name_at};
 ghost use Rattle.grammar_engine.specs.Rooms.{least_of};
 
@@ -43,7 +44,7 @@ fn is_named(tokens: &Tokens, place: usize, tag: usize) -> bool
 
 /// How many levels every tree of the rule has, as far as a part that it must have shows it: where
 /// there is less room, no tree allows its first token.
-fn least_room(rule: Rule) -> u32
+fn least_room(rule: Rule) -> u64
     ensures depth { depth_of rule ≤ result }
     ensures least { result ≡ least_of rule }
 {
@@ -59,7 +60,7 @@ fn least_room(rule: Rule) -> u32
         )
         | Rule::Exp(ExpRule::ExpBind)
         | Rule::Sql(SqlRule::SqlInsert) => 1,
-        _ => u32::from(rule.is_deep()),
+        _ => u64::from(rule.is_deep()),
     }
 }
 
@@ -80,7 +81,7 @@ pub fn choose(form: Form, next: Option<Kind>) -> Option<Rule>
 
 impl Machine {
     /// The part is to be read from this place on, at most so many levels deep.
-    pub fn new(alloc: Global, part: Part, at: usize, room: u32) -> Result<Machine, AllocError>
+    pub fn new(alloc: Global, part: Part, at: usize, room: u64) -> Result<Machine, AllocError>
         ensures { IfOk result (Begun part at room) }
     {
         let mut wants = Wants::new(alloc);
@@ -134,7 +135,7 @@ impl Machine {
     }
 
     /// The parts of the rule are to be read.
-    fn expand(&mut self, rule: Rule, room: u32, tag: usize) -> Result<(), AllocError>
+    fn expand(&mut self, rule: Rule, room: u64, tag: usize) -> Result<(), AllocError>
         ensures wants { OnOk result (self.new.wants ≡ wants_of room tag (body_of rule) ++ self.old.wants) }
         ensures tree { OnOk result (self.new.tree ≡ self.old.tree) }
         ensures at { self.new.at ≡ self.old.at }
@@ -159,11 +160,12 @@ impl Machine {
         tokens: &Tokens,
         form: Form,
         rule: Rule,
-        room: u32,
+        room: u64,
         tag: usize,
     ) -> Result<(), Stop>
         requires { Chosen form (first_kind (drop self.old.at tokens.now.items)) rule }
         ensures expands { OnOk result (Expands tokens.now.items form room tag self.old self.new) }
+        ensures ruled { OnOk result (self.new.tree.marks ≡ self.old.tree.marks ++ Mark.Rule rule ∷ []) }
         ensures cramped { IfErr result (Cramped rule room) }
         ensures refused { IfErr result (RefusedHere self.old) }
         ensures far { self.new.far ≡ self.old.far }
@@ -183,7 +185,7 @@ impl Machine {
         &mut self,
         tokens: &Tokens,
         form: Form,
-        room: u32,
+        room: u64,
         tag: usize,
     ) -> Result<(), AllocError>
         ensures goes { OnOk result (Goes tokens.now.items form room tag (record { part = Part.Many form; room = room; tag = tag } ∷ []) self.old self.new) }
@@ -212,11 +214,13 @@ impl Machine {
         &mut self,
         tokens: &Tokens,
         form: Form,
-        room: u32,
+        room: u64,
         tag: usize,
         taken: bool,
     ) -> Result<(), AllocError>
-        requires { taken ≡ false → must_go_on form (first_kind (drop self.old.at tokens.now.items)) ≡ false }
+        requires ended { taken ≡ false → must_go_on form (first_kind (drop self.old.at tokens.now.items)) ≡ false }
+        requires begun { taken ≡ true → begins form (first_kind (drop self.old.at tokens.now.items)) ≡ true }
+        ensures marked { OnOk result (Marked taken self.old self.new) }
         ensures goes { OnOk result (Goes tokens.now.items form room tag [] self.old self.new) }
         ensures far { self.new.far ≡ self.old.far }
     {

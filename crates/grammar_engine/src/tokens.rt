@@ -1,5 +1,5 @@
 //! Looking at tokens, and copying one.
-ghost use Rattle.std.specs.Prelude.{◌≡◌, ◌<◌, length, drop, IfOk, IfSome, IsTrue, IsFalse, ◌≢◌};
+ghost use Rattle.std.specs.Prelude.{◌≡◌, ◌<◌, length, drop, IfOk, IfSome, IsTrue, IsFalse, Some, ◌≢◌};
 ghost use Rattle.surface_grammar.specs.Fronts.{first_kind};
 ghost use Rattle.grammar_engine.specs.Places.{name_at};
 
@@ -14,6 +14,17 @@ pub fn kind_at(tokens: &Tokens, place: usize) -> Option<Kind>
         Some(tokens.at(place).kind)
     } else {
         None
+    }
+}
+
+/// Whether a token of this kind stands at the place.
+pub fn is_at(tokens: &Tokens, place: usize, kind: Kind) -> bool
+    ensures yes { IsTrue result → first_kind (drop place tokens.now.items) ≡ Some kind }
+    ensures other { IsFalse result → first_kind (drop place tokens.now.items) ≢ Some kind }
+{
+    match kind_at(tokens, place) {
+        Some(found) => found == kind,
+        None => false,
     }
 }
 

@@ -11,7 +11,7 @@ use surface_grammar::Part;
 #[derive(Clone, Copy, Debug)]
 pub struct Want {
     pub part: Part,
-    pub room: u32,
+    pub room: u64,
     pub tag: usize,
 }
 

@@ -1,6 +1,5 @@
 -- From the bytes that were read to what the top call says of the input.
-use Rattle.std.proofs.Common.{take, ◌≡◌, ℕ, ◌≤◌, ◌<◌, ◌+◌, List, [], ◌∷◌, ◌++◌, Some, None, IfSome, length, refl, sym, ap, ◌∙◌, subst, inl, inr, ◌⊎◌, append-nil, length-append, arith}
-use Rattle.std.specs.Prelude.{Result, Ok, Err, IsOk}
+use Rattle.std.proofs.Common.{take, ◌≡◌, ℕ, ◌≤◌, ◌<◌, List, [], ◌++◌, Some, None, IfSome, length, refl, sym, ap, ◌∙◌, subst, inl, inr, append-nil, length-append, arith}
 use Rattle.std.proofs.lemmas.Bool.{cases_lt}
 use Rattle.std.specs.declared.option.Option.{Option}
 use Rattle.std.specs.Io.KnownBytes.{Consumes, Appends, IsAtEnd}
@@ -13,7 +12,7 @@ use Rattle.page_server.specs.declared.refusal.ModuleFault.{ModuleFault}
 use Rattle.page_server.specs.declared.refusal.ModuleFault.TheVariants.{FileTooLong, NotUtf8, BadChar, OpenText, OpenComment, IntTooLarge, Syntax, TooDeep, NotBuilt, Memory}
 use Rattle.page_server.specs.Lines.{line_of}
 use Rattle.page_server.specs.Modules.{HasPage, IsRefused}
-use Rattle.page_server.specs.Top.{PageIsWritten, RefusalIsWritten, FrontIsWritten, IsToldPage}
+use Rattle.page_server.specs.Top.{PageIsWritten, RefusalIsWritten, FrontIsWritten}
 
 -- what was read to the end is all there was
 whole : (x y v : List ℕ) → x ≡ v ++ y → y ≡ [] → v ≡ x

@@ -1,3 +1,5 @@
 mod Words
 mod Inputs
 mod OneAnswer
+mod OneRefusal
+mod Refusing

@@ -1,13 +1,11 @@
 -- A module has one page at most, or is refused.
-use Rattle.std.proofs.Common.{◌≡◌, ℕ, ◌≤◌, ◌<◌, List, length, refl, sym, ap, ◌∙◌, subst, inl, inr, ◌⊎◌, arith}
+use Rattle.std.proofs.Common.{◌≡◌, List, refl, sym, ap, ◌∙◌, subst, inl, inr, arith}
 use Rattle.surface_tree.specs.declared.token.Token.{Token}
-use Rattle.xml_trees.specs.Trees.{Trees}
-use Rattle.ur_lexer.specs.Lexing.{Lexes, at_end, at_fault, Ending, TextsHaveOneReading}
-use Rattle.ur_parser.specs.Small.{Module, IsSmall, SmallModulesAreUnique}
+use Rattle.ur_lexer.specs.Lexing.{at_end, at_fault, Ending, TextsHaveOneReading}
+use Rattle.ur_parser.specs.Small.{IsSmall, SmallModulesAreUnique}
 use Rattle.ur_parser.specs.Pages.{page_of}
-use Rattle.page_server.specs.declared.refusal.ModuleFault.{ModuleFault}
 use Rattle.page_server.specs.declared.refusal.ModuleFault.TheVariants.{FileTooLong, NotUtf8, BadChar, OpenText, OpenComment, IntTooLarge, Syntax, TooDeep, NotBuilt, Memory}
-use Rattle.page_server.specs.Modules.{HasPage, IsRefused, ModulesHaveOneAnswer, ModulesHaveOnePage}
+use Rattle.page_server.specs.Modules.{ModulesHaveOneAnswer, ModulesHaveOnePage}
 
 -- no reading ends both at the text's end and at a fault
 never : (fault : _) → ◌≡◌ {A = Ending} at_end (at_fault fault) → ⊥

@@ -5,15 +5,13 @@ use Rattle.surface_tree.specs.declared.token.Token.{Token}
 use Rattle.surface_tree.specs.TokenList.{TokenList}
 use Rattle.surface_grammar.specs.declared.fault.ParseFault.{ParseFault}
 use Rattle.surface_grammar.specs.declared.fault.ParseFault.TheVariants as parser
-use Rattle.surface_grammar.specs.Refusals.{deepest, Whole}
-use Rattle.surface_grammar.specs.Trees.{Node, spell}
 use Rattle.xml_trees.specs.Trees.{Trees}
 use Rattle.ur_lexer.specs.Lexing.{Lexes, at_end, IsTold}
 use Rattle.ur_lexer.specs.declared.fault.LexFault.{LexFault}
 use Rattle.ur_lexer.specs.declared.fault.LexFault.TheVariants as lexer
 use Rattle.ur_parser.specs.Small.{Module, IsSmall, IsNoSmall, longest as longest_small}
 use Rattle.ur_parser.specs.Pages.{page_of}
-use Rattle.ur_parser.specs.Sources.{module_part, IsNoModule}
+use Rattle.ur_parser.specs.Sources.{IsModuleText, IsNoModule}
 use Rattle.page_server.specs.declared.refusal.ModuleFault.{ModuleFault}
 use Rattle.page_server.specs.declared.refusal.ModuleFault.TheVariants.{FileTooLong, NotUtf8, BadChar, OpenText, OpenComment, IntTooLarge, Syntax, TooDeep, NotBuilt, Memory}
 
@@ -46,16 +44,12 @@ HasPage bytes trees =
     IsModule bytes × (length bytes ≤ longest_small) × (tokens : List Token) × Lexes bytes tokens at_end
     × (m : Module) × IsSmall tokens m × (trees ≡ page_of m)
 
--- the tokens are those of a module
-abbrev pub IsParsed : List Token → Type 0
-IsParsed tokens = (n : Node) × Whole deepest module_part n × (spell n ≡ tokens)
-
 -- why tokens that aren't of the small form have no page: no module has them, as the parser tells, or they are those of
 -- another module
 abbrev pub IsOtherForm : TokenList → ModuleFault → Type 0
 IsOtherForm ts (Syntax at) = IsNoModule ts (parser.Syntax at)
 IsOtherForm ts (TooDeep at) = IsNoModule ts (parser.TooDeep at)
-IsOtherForm ts NotBuilt = IsParsed ts.items
+IsOtherForm ts NotBuilt = IsModuleText ts.items
 IsOtherForm ts Memory = Unit {0}
 IsOtherForm ts _ = ⊥
 
@@ -92,3 +86,7 @@ ModulesHaveOneAnswer = (bytes : List ℕ) (trees : Trees) (fault : ModuleFault) 
 -- A module has one page at most.
 abbrev pub ModulesHaveOnePage : Type 0
 ModulesHaveOnePage = (bytes : List ℕ) (trees others : Trees) → HasPage bytes trees → HasPage bytes others → trees ≡ others
+
+-- A module is refused for one reason, at one byte; want of memory says nothing of it.
+abbrev pub ModulesHaveOneRefusal : Type 0
+ModulesHaveOneRefusal = (bytes : List ℕ) (fault other : ModuleFault) → IsRefused bytes fault → IsRefused bytes other → (fault ≡ Memory) ⊎ (other ≡ Memory) ⊎ (fault ≡ other)

@@ -1,5 +1,5 @@
 //! From the bytes of a module to its page.
-ghost use Rattle.std.specs.Prelude.{◌≡◌, ◌≤◌, IfOk, IfErr, OnOk, IsOkUnless};
+ghost use Rattle.std.specs.Prelude.{◌≡◌, ◌<◌, ◌≤◌, ◌^◌, length, IfOk, IfErr, OnOk, IsOkUnless};
 ghost use Rattle.xml_trees.specs.Trees.{Trees, IsWhole, Whole, built, trees_of};
 ghost use Rattle.ur_parser.specs.Small.{Module, IsSmall, longest as longest_small};
 ghost use Rattle.ur_parser.specs.Pages.{page_of as page_tree};
@@ -19,6 +19,7 @@ pub const LONGEST: usize = 4194304;
 
 /// Why tokens that are of no small module have no page: the grammar refuses them, or they are of another form.
 fn unbuilt(alloc: Global, tokens: &Tokens) -> ModuleFault
+    requires { length tokens.now.items < 2 ^ 32 }
     ensures { IsOtherForm tokens.now result }
 {
     match parse(alloc, tokens) {
@@ -30,6 +31,7 @@ fn unbuilt(alloc: Global, tokens: &Tokens) -> ModuleFault
 /// The page of a module's tokens. Those of the small form are those of a module, so the grammar is asked only where they
 /// are of another form.
 fn page_of_tokens(alloc: Global, tokens: &Tokens) -> Result<Page, ModuleFault>
+    requires { length tokens.now.items < 2 ^ 32 }
     ensures short { OnOk result (tokens.now.end ≤ longest_small) }
     ensures page { IfOk result (λ page. (m : Module) × IsSmall tokens.now.items m × (built page ≡ Whole (page_tree m))) }
     ensures refused { IfErr result (HasNoPage tokens.now) }

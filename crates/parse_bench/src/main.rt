@@ -1,6 +1,8 @@
 //! Parses a file and prints how long that took behind lexing, and how large the tree is: the program of `bench/parse.sh`.
 #![tactic(auto)]
 
+ghost use Rattle.std.specs.Prelude.{◌<◌, ◌^◌, length};
+
 use std::time::Instant;
 use std::{env, fs, io};
 use surface_tree::Tokens;
@@ -11,7 +13,9 @@ use ur_parser::parse;
 const LONGEST: usize = 1_073_741_824;
 
 /// Parses the tokens, and prints their number, the marks of the tree, and the nanoseconds that it took.
-fn tell_parse(rt: &HostRuntime, tokens: &Tokens) -> io::Result<()> {
+fn tell_parse(rt: &HostRuntime, tokens: &Tokens) -> io::Result<()>
+    requires { length tokens.now.items < 2 ^ 32 }
+{
     let count = tokens.len();
     let start = Instant::now(rt)?;
     match parse(rt.alloc(), tokens) {

@@ -83,6 +83,8 @@ pub fn lex(alloc: Global, text: &str) -> Result<Tokens, LexFault>
     // An `Ok` is the tokens that the text has, each at its place.
     ensures tokens { IfOk result (λ tokens. Lexes text.now tokens.items at_end) }
     ensures end { IfOk result (λ tokens. tokens.end ≡ length text.now) }
+    // There are no more tokens than bytes.
+    ensures few { IfOk result (λ tokens. length tokens.items ≤ length text.now) }
     // A fault is told only where the reading of the text ends at it.
     ensures fault { IfErr result (λ fault. IsTold text.now fault) }
     // What has tokens is refused only for want of memory.

@@ -1,5 +1,5 @@
 -- The tree that the whole grammar has for a module of the small form.
-use Rattle.std.proofs.Common.{◌≡◌, ℕ, suc, ◌+◌, ◌-◌, ◌≤◌, max, Bool, true, false, List, [], ◌∷◌, ◌++◌, refl, sym, ap, ◌∙◌, subst, append_assoc, append-nil, inl, inr, Some, None, arith}
+use Rattle.std.proofs.Common.{◌≡◌, ℕ, ◌+◌, ◌-◌, ◌≤◌, Bool, true, false, List, [], ◌∷◌, ◌++◌, refl, sym, ap, ◌∙◌, subst, append_assoc, append-nil, inl, inr, Some, None, arith}
 use Rattle.std.specs.Prelude.{codes}
 use Rattle.std.specs.declared.option.Option.{Option}
 use Rattle.surface_tree.specs.declared.kind.Kind.{Kind}
@@ -18,17 +18,17 @@ use Rattle.surface_grammar.specs.declared.form.Form.{Form}
 use Rattle.surface_grammar.specs.declared.form.Form.TheVariants as f
 use Rattle.surface_grammar.specs.declared.markup.MarkupRule.TheVariants as markup
 use Rattle.surface_grammar.specs.declared.parameters.ArgRule.TheVariants as arg
-use Rattle.surface_grammar.specs.declared.part.Part.TheVariants.{Word as word_part, One, Many, Maybe}
+use Rattle.surface_grammar.specs.declared.part.Part.TheVariants.{One, Maybe}
 use Rattle.surface_grammar.specs.declared.patterns.PatRule.TheVariants as pat
 use Rattle.surface_grammar.specs.declared.rule.Rule.{Rule}
 use Rattle.surface_grammar.specs.declared.rule.Rule.TheVariants as r
 use Rattle.surface_grammar.specs.Forms.{rules_of}
 use Rattle.surface_grammar.specs.Refusals.{deepest, Whole}
-use Rattle.surface_grammar.specs.Sides.{bars_of, is_element as has_name}
+use Rattle.surface_grammar.specs.Sides.{bars_of}
 use Rattle.surface_grammar.specs.Table.{body_of as parts_of}
-use Rattle.surface_grammar.specs.Trees.{Node, leaf, branch, several, absent, present, Nodes, none, more, spell, spell_all, front, among, must_go_on, IsIn, depth_of, Built, Fits, FitsAll, FitsEach}
-use Rattle.ur_parser.specs.Words.{Word, Sign, Numeral, Holding, word, words_of}
-use Rattle.ur_parser.specs.Small.{Title, NoTitle, Quoted, Braced, Module, Main, Nodes as Small, NoNode, Text, Splice, Element, Closed, Void, nesting, opening, closing, spell_title, spell_nodes, spell_type, spell_module, body_of, HasTags, IsSmall}
+use Rattle.surface_grammar.specs.Trees.{Node, leaf, branch, several, absent, present, Nodes, none, more, spell, spell_all, front, among, must_go_on, IsIn, depth_of, Fits, FitsAll, FitsEach}
+use Rattle.ur_parser.specs.Words.{Word, Sign, Holding, word, words_of}
+use Rattle.ur_parser.specs.Small.{Title, NoTitle, Quoted, Braced, Main, Nodes as Small, NoNode, Text, Splice, Element, Closed, Void, nesting, opening, spell_title, spell_nodes, spell_type}
 use Rattle.ur_parser.specs.Sources.{module_part, SmallModulesAreModules}
 
 -- a token that holds nothing stands first

@@ -155,9 +155,15 @@ pub fn tokens_of(alloc: Global, text: &str) -> Result<Tokens, AllocError> {
     Ok(tokens)
 }
 
+/// The most tokens of a tried text.
+const MOST_TOKENS: usize = 10_000_000;
+
 /// The refusal of a text, or nothing where it is read.
 pub fn fault_of(alloc: Global, part: Part, text: &str) -> Result<Option<ParseFault>, AllocError> {
     let tokens = tokens_of(alloc, text)?;
+    if tokens.len() > MOST_TOKENS {
+        return Err(AllocError);
+    }
     match read_whole(alloc, &tokens, part) {
         Ok(tree) => {
             if tree.leaves().len() == tokens.len() {

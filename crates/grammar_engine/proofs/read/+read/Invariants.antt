@@ -1,6 +1,7 @@
 use Rattle.std.proofs.Common.{◌≡◌, ◌+◌, ◌*◌, ◌++◌, drop}
 use Rattle.grammar_engine.proofs.Grown.{Grows}
 use Rattle.grammar_engine.proofs.Allowing.{Ready}
+use Rattle.grammar_engine.proofs.Going.{Going}
 use Rattle.grammar_engine.proofs.Smaller.{left_over}
 use Rattle.grammar_engine.proofs.read.+read.Given as goal
 
@@ -29,6 +30,7 @@ abbrev pub invariant-read_part-loop-want : goal.invariant-read_part-loop-want
 invariant-read_part-loop-want l = record {
   grows : Grows l.fn.tokens.items l.fn.part l.fn.at l.fn.room (drop l.machine.at l.fn.tokens.items) l.machine.wants l.machine.tree.leaves l.machine.tree.marks;
   read : drop l.fn.at l.fn.tokens.items ≡ l.machine.tree.leaves ++ drop l.machine.at l.fn.tokens.items;
+  going : Going l.fn.tokens.items l.fn.part l.fn.at l.fn.room l.fn.races l.machine.at l.machine.far l.machine.wants l.machine.tree.leaves l.machine.tree.marks;
   ready : Ready l.fn.tokens.items l.fn.part l.fn.at l.fn.room l.machine.at l.machine.far l.machine.wants;
 }
 

@@ -1,15 +1,24 @@
 use Rattle.std.proofs.Common.{arith, subst}
 use Rattle.grammar_engine.specs.Allowed.{StopsAllowed}
+use Rattle.grammar_engine.specs.Exact.{StopsText}
 use Rattle.grammar_engine.proofs.Ranks.{less}
+use Rattle.grammar_engine.proofs.Refusing.{none_goes}
 use Rattle.grammar_engine.proofs.Whole.{allows_at, goes_on_whole, goes_on_later}
 use Rattle.grammar_engine.proofs.read.is_deeper.Goals as goal
 
-pub returns-in-Ok : goal.returns-in-Ok
-returns-in-Ok c = λ yes. goes_on_whole c.args.tokens.now.items c.args.part 4294967295 c.args.place c.in-Ok._tree c.in-Ok.ensures.tree
+pub returns-in-Ok-clause-deeper : goal.returns-in-Ok-clause-deeper
+returns-in-Ok-clause-deeper c = λ yes. goes_on_whole c.args.tokens.now.items c.args.part 18446744073709551615 c.args.place c.in-Ok._tree c.in-Ok.ensures.tree
 
-pub returns-in-Err-Refused : goal.returns-in-Err-Refused
-returns-in-Err-Refused c =
+pub returns-in-Err-Refused-clause-deeper : goal.returns-in-Err-Refused-clause-deeper
+returns-in-Err-Refused-clause-deeper c =
     let items = c.args.tokens.now.items in
     λ yes.
-    goes_on_later items c.args.part 4294967295 c.args.place c.in-Err-Refused.later (less c.args.place c.in-Err-Refused.later (search yes))
-    (allows_at items c.args.part 4294967295 c.in-Err-Refused.later (omega arith) (subst (StopsAllowed items c.args.part 0 4294967295) c.in-Err-Refused.field-0-is c.in-Err-Refused.ensures.allowed))
+    goes_on_later items c.args.part 18446744073709551615 c.args.place c.in-Err-Refused.later (less c.args.place c.in-Err-Refused.later (search yes))
+    (allows_at items c.args.part 18446744073709551615 c.in-Err-Refused.later (omega arith) (subst (StopsAllowed items c.args.part 0 18446744073709551615) c.in-Err-Refused.field-0-is c.in-Err-Refused.ensures.allowed))
+
+pub returns-in-Err-Refused-clause-no_deeper : goal.returns-in-Err-Refused-clause-no_deeper
+returns-in-Err-Refused-clause-no_deeper c =
+    let items = c.args.tokens.now.items in
+    λ no.
+    none_goes items c.args.part 18446744073709551615 c.args.place c.in-Err-Refused.later (subst (StopsText c.args.part items 18446744073709551615) c.in-Err-Refused.field-0-is c.in-Err-Refused.ensures.ends)
+    (omega (arith, c.requires.few)) (search (arith, no)) c.requires.within

@@ -1,8 +1,7 @@
-use Rattle.std.proofs.Common.{rules, ◌≡◌, ◌≤◌, ◌<◌, ℕ, List, length, Some, Ok, Err, arith, refl, sym, ap, ◌∙◌, subst, ◌⊎◌, inl, inr}
-use Rattle.std.specs.Prelude.{IsOk}
+use Rattle.std.proofs.Common.{ℕ, List, arith, sym, subst}
 use Rattle.page_server.specs.Modules.{HasPage, IsRefused}
 use Rattle.xml_trees.specs.Trees.{built, trees_of}
-use Rattle.page_server.proofs.Inputs.{refusal, page, told, no_line, front_of_line, front_of_page}
+use Rattle.page_server.proofs.Inputs.{refusal, told, no_line, front_of_line, front_of_page}
 use Rattle.page_server.proofs.command.end_page.Goals as goal
 
 pub returns-clause-refused : goal.returns-clause-refused

@@ -1,4 +1,4 @@
-use Rattle.std.proofs.Common.{◌≡◌, ℕ, List, [], ◌∷◌, length, sym, ap, ◌∙◌, map, string_bytes}
+use Rattle.std.proofs.Common.{ℕ, List, ap, ◌∙◌, string_bytes}
 use Rattle.std.specs.Prelude.{codes, nat_eq}
 use Rattle.std.specs.Cmp.Lexicographic.{pointwise}
 use Rattle.page_server.proofs.Words.{one_word}

@@ -1,11 +1,10 @@
-use Rattle.std.proofs.Common.{◌≡◌, ℕ, ◌≤◌, List, length, Ok, Err, IsOkUnless, refl, sym, ap, ◌∙◌, subst}
-use Rattle.std.specs.Prelude.{IsOkUnless}
+use Rattle.std.proofs.Common.{◌≡◌, ℕ, ◌≤◌, arith, List, length, sym, ap, ◌∙◌, subst}
 use Rattle.std.proofs.lemmas.Result.{err_from_is_err_and}
 use Rattle.surface_tree.specs.declared.token.Token.{Token}
 use Rattle.ur_lexer.specs.Lexing.{Lexes, at_end}
-use Rattle.ur_lexer.specs.declared.fault.LexFault.TheVariants as lexer
-use Rattle.ur_parser.specs.Small.{IsSmall, Module}
-use Rattle.page_server.specs.Modules.{HasPage, lexical}
+use Rattle.ur_parser.specs.Small.{IsSmall}
+use Rattle.page_server.specs.Modules.{HasNoPage, lexical}
+use Rattle.page_server.proofs.Refusing.{no_page}
 use Rattle.page_server.proofs.module.page_of.Goals as goal
 
 pub returns-in_err-tokens-clause-complete : goal.returns-in_err-tokens-clause-complete
@@ -24,3 +23,13 @@ returns-in_err-page-clause-complete c trees (is, few, tokens, lexes, m, small, p
     let told = c.in_err-page.ensures.complete short m (subst (λ (l : List Token). IsSmall l m) (sym same) small) in
     let p = err_from_is_err_and c.from_residual-in_err-page.result c.from_residual-in_err-page.ensures.1 in
     rw (p.1, p.2) told
+
+pub returns-in_err-page-clause-refused : goal.returns-in_err-page-clause-refused
+returns-in_err-page-clause-refused c =
+    let text : c.in-Ok.text.now ≡ c.args.bytes.now = c.in-Ok.ensures.cases.0 in
+    let ts = c.in_ok-tokens.tokens in
+    let fault = c.in_err-page.field-0.0 in
+    let end : ts.end ≡ length c.args.bytes.now = c.in_ok-tokens.ensures.end ∙ ap length text in
+    let told : HasNoPage (record { items = ts.items; end = length c.args.bytes.now }) fault = subst (λ (n : ℕ). HasNoPage (record { items = ts.items; end = n }) fault) end c.in_err-page.ensures.refused in
+    let p = err_from_is_err_and c.from_residual-in_err-page.result c.from_residual-in_err-page.ensures.1 in
+    rw (p.1, p.2) (no_page c.args.bytes.now ts fault (search (arith, c.if-bytes-gt-LONGEST.false), c.in-Ok.ensures.cases.1) (subst (λ (l : List ℕ). Lexes l ts.items at_end) text c.in_ok-tokens.ensures.tokens) told)

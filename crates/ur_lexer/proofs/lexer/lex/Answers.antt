@@ -1,14 +1,19 @@
-use Rattle.std.proofs.Common.{◌≡◌, ◌≤◌, ◌-◌, length, sym, ap, ◌∙◌, arith, length-drop}
+use Rattle.std.proofs.Common.{◌≡◌, ◌≤◌, ◌+◌, ◌-◌, List, [], ◌∷◌, ◌++◌, length, length-append, sym, ap, ◌∙◌, arith, length-drop}
 use Rattle.std.proofs.lemmas.Result.{err_from_is_err_and}
+use Rattle.surface_tree.specs.declared.token.Token.{Token}
 use Rattle.ur_lexer.specs.Lexing.{IsBlank, IsToken}
 use Rattle.ur_lexer.proofs.Ends.{blank_cut, token_cut}
 use Rattle.ur_lexer.proofs.Meaning.{ahead_end, ahead_blank, ahead_word}
 use Rattle.ur_lexer.proofs.Readings.{grows_start, grows_blank, grows_word, lexes_end, told, only_memory, that_fault, not_both}
 use Rattle.ur_lexer.proofs.lexer.lex.Goals as goal
 
+one_more : (xs ys : List Token) (t : Token) → ys ≡ xs ++ t ∷ [] → length ys ≡ length xs + 1
+one_more xs ys t e = ap length e ∙ length-append xs (t ∷ [])
+
 pub steps-init : goal.steps-init
 steps-init c = record {
   sound = grows_start c.args.text.now _ _ _ (sym c.new-tokens.ensures.items) (sym c.new-state.ensures) (omega arith);
+  few = omega (arith, ap length c.new-tokens.ensures.items);
   within = omega arith;
   text = c.utf8.text;
   end = c.new-tokens.ensures.end;
@@ -55,6 +60,7 @@ steps-preserved-in-Blank c =
     let within = c.steps.invariant.within in
     record {
       sound = grows_blank c.args.text.now _ c.steps.state _ c.steps.rest.now c.in-Blank.len _ _ c.steps.invariant.sound is (omega (arith, long, room, within)) (sym c.after-rest.ensures);
+      few = omega (arith, long, room, c.steps.invariant.few);
       within = omega (arith, long, within);
       text = c.after-rest.utf8;
       end = c.steps.invariant.end;
@@ -79,6 +85,7 @@ steps-preserved c =
     let within = c.steps.invariant.within in
     record {
       sound = grows_word c.args.text.now _ c.steps.state _ c.steps.rest.now c.in-Word.found _ _ _ _ c.steps.invariant.sound is (sym c.in_ok-push-in-Word.ensures.ok) (sym c.in_ok-turn-in-Word.ensures) (omega (arith, long, room, within)) (sym c.after-rest-in-Word.ensures);
+      few = omega (arith, long, room, cut.0, one_more _ _ _ c.in_ok-push-in-Word.ensures.ok, c.steps.invariant.few);
       within = omega (arith, long, within);
       text = c.after-rest-in-Word.utf8;
       end = c.in_ok-push-in-Word.ensures.end ∙ c.steps.invariant.end;

@@ -1,0 +1,249 @@
+-- How many races within each other what is to be read may need.
+use Rattle.std.proofs.Common.{◌≡◌, ◌≤◌, ℕ, List, [], ◌∷◌, ◌++◌, refl, sym, subst, arith, Bool, true, false, not, ◌&&◌, ◌||◌, nat_le}
+use Rattle.surface_tree.specs.declared.token.Token.{Token}
+use Rattle.surface_grammar.specs.declared.form.Form.{Form}
+use Rattle.surface_grammar.specs.declared.form.Form.TheVariants as f
+use Rattle.surface_grammar.specs.declared.part.Part.{Part}
+use Rattle.surface_grammar.specs.declared.part.Part.TheVariants.{Word, One, Many, Maybe}
+use Rattle.surface_grammar.specs.Sides.{is_tag}
+use Rattle.surface_grammar.specs.Table.{body_of}
+use Rattle.grammar_engine.specs.declared.want.Want.{Want}
+use Rattle.grammar_engine.specs.declared.machine.Machine.{Machine}
+use Rattle.grammar_engine.specs.Moves.{goes_by, MeetsPart}
+use Rattle.grammar_engine.specs.Passing.{races_of}
+use Rattle.grammar_engine.proofs.Calm.{and_both, at_most, parts_of}
+use Rattle.grammar_engine.proofs.Levels.{level_of, part_keeps, keep_all, rule_keeps}
+use Rattle.grammar_engine.proofs.Passed.{want}
+use Rattle.grammar_engine.proofs.Ranks.{and_left, and_right}
+use Rattle.grammar_engine.proofs.Trailing.{parts_append}
+
+-- so many races are enough for all that is to be read
+abbrev pub Raced : ℕ → List Want → Type 0
+Raced races ws = keep_all races (parts_of ws) ≡ true
+
+wider : (a n m : ℕ) → nat_le a n ≡ true → n ≤ m → nat_le a m ≡ true
+wider a n m h l = grown (at_most a n h)
+  where
+    grown : a ≤ n → nat_le a m ≡ true
+    grown k = search (arith, k, l)
+
+or_first : (a b : Bool) → a ≡ true → (a || b) ≡ true
+or_first true b h = refl
+or_first false b h = cc
+
+or_either : (a b c : Bool) → (a ≡ true → c ≡ true) → (a || b) ≡ true → (c || b) ≡ true
+or_either true b c m h = or_first c b (m refl)
+or_either false b true m h = refl
+or_either false b false m h = h
+
+part_more : (n m : ℕ) (p : Part) → n ≤ m → part_keeps n p ≡ true → part_keeps m p ≡ true
+part_more n m (Word w) l h = or_either (nat_le 2 n) (not (is_tag w)) (nat_le 2 m) (λ i. wider 2 n m i l) h
+part_more n m (One g) l h = wider (level_of g) n m h l
+part_more n m (Many g) l h = wider (level_of g) n m h l
+part_more n m (Maybe g) l h = wider (level_of g) n m h l
+
+all_more : (n m : ℕ) (ps : List Part) → n ≤ m → keep_all n ps ≡ true → keep_all m ps ≡ true
+all_more n m [] l h = refl
+all_more n m (p ∷ ps) l h = and_both (part_keeps m p) (keep_all m ps) (part_more n m p l (and_left (part_keeps n p) (keep_all n ps) h)) (all_more n m ps l (and_right (part_keeps n p) (keep_all n ps) h))
+
+keep_append : (n : ℕ) (ps qs : List Part) → keep_all n ps ≡ true → keep_all n qs ≡ true → keep_all n (ps ++ qs) ≡ true
+keep_append n [] qs h k = k
+keep_append n (p ∷ ps) qs h k = and_both (part_keeps n p) (keep_all n (ps ++ qs)) (and_left (part_keeps n p) (keep_all n ps) h) (keep_append n ps qs (and_right (part_keeps n p) (keep_all n ps) h) k)
+
+raced_goes : (b : Bool) (races : ℕ) (g : Form) (room tag : ℕ) (extra : List Want) (a c : Machine) → goes_by b g room tag extra a c → Raced races (want (One g) room tag ∷ extra ++ a.wants) → Raced races a.wants → Raced races c.wants
+raced_goes true races g room tag extra a c by on off = subst (Raced races) (sym by.0) on
+raced_goes false races g room tag extra a c by on off = subst (Raced races) (sym by.0) off
+
+-- a step of reading keeps it
+pub raced_meets : (races : ℕ) (items : List Token) (q : Part) (room tag : ℕ) (a c : Machine) → MeetsPart items q room tag a c → Raced races (want q room tag ∷ a.wants) → Raced races c.wants
+raced_meets races items (Word w) room tag a c s h = subst (Raced races) (sym s.wants) (and_right (part_keeps races (Word w)) (keep_all races (parts_of a.wants)) h)
+raced_meets races items (One g) room tag a c s h =
+    let level = at_most (level_of g) races (and_left (part_keeps races (One g)) (keep_all races (parts_of a.wants)) h) in
+    subst (Raced races) (sym s.wants)
+    (subst (λ l. keep_all races l ≡ true) (sym (parts_append s.inner s.own (body_of s.rule) a.wants))
+    (keep_append races (body_of s.rule) (parts_of a.wants) (all_more (level_of g) races (body_of s.rule) level (rule_keeps g s.rule s.built.rule)) (and_right (part_keeps races (One g)) (keep_all races (parts_of a.wants)) h)))
+raced_meets races items (Many g) room tag a c s h =
+    raced_goes s.taken races g room tag (want (Many g) room tag ∷ []) a c s.by (and_both (part_keeps races (One g)) (keep_all races (Many g ∷ parts_of a.wants)) (and_left (part_keeps races (Many g)) (keep_all races (parts_of a.wants)) h) h)
+    (and_right (part_keeps races (Many g)) (keep_all races (parts_of a.wants)) h)
+raced_meets races items (Maybe g) room tag a c s h = raced_goes s.taken races g room tag [] a c s.by h (and_right (part_keeps races (Maybe g)) (keep_all races (parts_of a.wants)) h)
+
+-- computed
+all_levels : (g : Form) → nat_le (level_of g) 2 ≡ true
+all_levels f.KindTerm = refl
+all_levels f.KindArrow = refl
+all_levels f.KindAtom = refl
+all_levels f.KindTimes = refl
+all_levels f.KindMark = refl
+all_levels f.Con = refl
+all_levels f.ConForall = refl
+all_levels f.ConArrow = refl
+all_levels f.ConProduct = refl
+all_levels f.ConTimes = refl
+all_levels f.ConSum = refl
+all_levels f.ConConcat = refl
+all_levels f.ConApply = refl
+all_levels f.ConTerm = refl
+all_levels f.ConDollar = refl
+all_levels f.ConPrimary = refl
+all_levels f.ConIndex = refl
+all_levels f.ConAtom = refl
+all_levels f.HashName = refl
+all_levels f.ConParenRest = refl
+all_levels f.ConParenEnd = refl
+all_levels f.ConComma = refl
+all_levels f.ConFieldTypes = refl
+all_levels f.ConFieldMore = refl
+all_levels f.ConRowFields = refl
+all_levels f.ConFieldValue = refl
+all_levels f.ConRowMore = refl
+all_levels f.FieldName = refl
+all_levels f.Path = refl
+all_levels f.UpperDot = refl
+all_levels f.BracketOpen = refl
+all_levels f.BracketRest = refl
+all_levels f.BracketFields = refl
+all_levels f.BracketNameRest = refl
+all_levels f.BracketUpperRest = refl
+all_levels f.BracketHashRest = refl
+all_levels f.GuardSides = refl
+all_levels f.NameSides = refl
+all_levels f.PathSides = refl
+all_levels f.IntSides = refl
+all_levels f.Pat = refl
+all_levels f.PatCons = refl
+all_levels f.PatTerm = refl
+all_levels f.PatAtom = refl
+all_levels f.UpperPath = refl
+all_levels f.DotUpper = refl
+all_levels f.PatParenRest = refl
+all_levels f.PatParenEnd = refl
+all_levels f.PatComma = refl
+all_levels f.PatRecordRest = refl
+all_levels f.PatFieldMore = refl
+all_levels f.PatFieldNext = refl
+all_levels f.Arg = refl
+all_levels f.ArgBracketRest = refl
+all_levels f.ArgLowerRest = refl
+all_levels f.Exp = refl
+all_levels f.ExpBindRest = refl
+all_levels f.ExpThen = refl
+all_levels f.Term = refl
+all_levels f.CaseBar = refl
+all_levels f.CaseMore = refl
+all_levels f.Body = refl
+all_levels f.Or = refl
+all_levels f.OrMore = refl
+all_levels f.And = refl
+all_levels f.AndMore = refl
+all_levels f.Compare = refl
+all_levels f.CompareMore = refl
+all_levels f.Cons = refl
+all_levels f.ConsMore = refl
+all_levels f.Join = refl
+all_levels f.JoinMore = refl
+all_levels f.Sum = refl
+all_levels f.SumMore = refl
+all_levels f.Product = refl
+all_levels f.ProductMore = refl
+all_levels f.Sign = refl
+all_levels f.Cut = refl
+all_levels f.CutMore = refl
+all_levels f.Apply = refl
+all_levels f.Argument = refl
+all_levels f.ArgumentRest = refl
+all_levels f.Atom = refl
+all_levels f.Operand = refl
+all_levels f.Dot = refl
+all_levels f.Primary = refl
+all_levels f.AnyName = refl
+all_levels f.ParenRest = refl
+all_levels f.ParenEnd = refl
+all_levels f.ExpComma = refl
+all_levels f.ExpFields = refl
+all_levels f.ExpFieldMore = refl
+all_levels f.Node = refl
+all_levels f.NodeBraceRest = refl
+all_levels f.Splice = refl
+all_levels f.TagName = refl
+all_levels f.ElementEnd = refl
+all_levels f.Attribute = refl
+all_levels f.AttributeValue = refl
+all_levels f.Decl = refl
+all_levels f.LetDecl = refl
+all_levels f.ValRest = refl
+all_levels f.RecMore = refl
+all_levels f.FunMore = refl
+all_levels f.TypeMark = refl
+all_levels f.Parameter = refl
+all_levels f.Constructor = refl
+all_levels f.ConstructorOf = refl
+all_levels f.ConstructorMore = refl
+all_levels f.KeyMark = refl
+all_levels f.KeyColumns = refl
+all_levels f.ColumnList = refl
+all_levels f.ColumnMore = refl
+all_levels f.InterfaceItem = refl
+all_levels f.Sql = refl
+all_levels f.Where = refl
+all_levels f.OrderBy = refl
+all_levels f.Limit = refl
+all_levels f.Offset = refl
+all_levels f.ValueList = refl
+all_levels f.ValueMore = refl
+all_levels f.Assignment = refl
+all_levels f.AssignmentMore = refl
+all_levels f.Selection = refl
+all_levels f.ItemMore = refl
+all_levels f.Item = refl
+all_levels f.ItemUpperRest = refl
+all_levels f.ItemDot = refl
+all_levels f.ItemBracesRow = refl
+all_levels f.ItemNamed = refl
+all_levels f.Source = refl
+all_levels f.SourceMore = refl
+all_levels f.AsMark = refl
+all_levels f.TableRef = refl
+all_levels f.TableBraces = refl
+all_levels f.TableBracesExp = refl
+all_levels f.Order = refl
+all_levels f.Direction = refl
+all_levels f.OrderMore = refl
+all_levels f.Count = refl
+all_levels f.SqlOr = refl
+all_levels f.SqlOrMore = refl
+all_levels f.SqlAnd = refl
+all_levels f.SqlAndMore = refl
+all_levels f.SqlNot = refl
+all_levels f.SqlCompare = refl
+all_levels f.SqlCompareMore = refl
+all_levels f.SqlSum = refl
+all_levels f.SqlSumMore = refl
+all_levels f.SqlProduct = refl
+all_levels f.SqlProductMore = refl
+all_levels f.SqlTerm = refl
+all_levels f.SqlBraceRest = refl
+
+two_enough : (p : Part) (races : ℕ) → 2 ≤ races → part_keeps races p ≡ true
+two_enough (Word w) races l = or_first (nat_le 2 races) (not (is_tag w)) (wider 2 2 races refl l)
+two_enough (One g) races l = wider (level_of g) 2 races (all_levels g) l
+two_enough (Many g) races l = wider (level_of g) 2 races (all_levels g) l
+two_enough (Maybe g) races l = wider (level_of g) 2 races (all_levels g) l
+
+start_part : (p : Part) (races : ℕ) → races_of p ≤ races → part_keeps races p ≡ true
+start_part (One f.KindTerm) races l = wider 0 0 races refl l
+start_part (One f.Pat) races l = wider 1 1 races refl l
+start_part p races l = two_enough p races l
+
+-- at the start
+pub raced_start : (p : Part) (room tag races : ℕ) → races_of p ≤ races → Raced races (want p room tag ∷ [])
+raced_start p room tag races l = and_both (part_keeps races p) true (start_part p races l) refl
+
+least : (a n : ℕ) (b : Bool) → (nat_le a n && b) ≡ true → a ≤ n
+least a n b h = at_most a n (and_left (nat_le a n) b h)
+
+-- an expression needs two, and the open option one
+pub raced_exp : (races : ℕ) (g : Form) (room tag : ℕ) (ws : List Want) → Raced races (want (One g) room tag ∷ ws) → g ≡ f.Exp → 2 ≤ races
+raced_exp races g room tag ws h e = least 2 races (keep_all races (parts_of ws)) (subst (λ z. (nat_le (level_of z) races && keep_all races (parts_of ws)) ≡ true) e h)
+
+pub raced_open : (races : ℕ) (g : Form) (room tag : ℕ) (ws : List Want) → Raced races (want (Maybe g) room tag ∷ ws) → g ≡ f.ConForall → 1 ≤ races
+raced_open races g room tag ws h e = least 1 races (keep_all races (parts_of ws)) (subst (λ z. (nat_le (level_of z) races && keep_all races (parts_of ws)) ≡ true) e h)
