@@ -1,3 +1,4 @@
 pub mod Holes
 pub mod Progress
+pub mod Refuses
 pub mod Readers

@@ -1,8 +1,11 @@
 //! A reader of one part of the grammar.
-ghost use Rattle.std.specs.Prelude.{◌≡◌, List, IfOk, OnOk};
+ghost use Rattle.std.specs.Prelude.{◌≡◌, ◌++◌, ◌∷◌, [], List, IfOk, IfErr, OnOk};
 ghost use Rattle.surface_tree.specs.declared.token.Token.{Token};
-ghost use Rattle.hole_reader.specs.Progress.{Going};
+ghost use Rattle.surface_grammar.specs.Listings.{Listing};
+ghost use Rattle.grammar_engine.specs.Faults.{byte_at};
+ghost use Rattle.hole_reader.specs.Progress.{Comes};
 ghost use Rattle.hole_reader.specs.Readers.{AsksFor, Fresh, Gives, Hands, IsOpen, Reading, Steps};
+ghost use Rattle.hole_reader.specs.Refuses.{Refuses, StopsAt, Told, Unbegun};
 
 use crate::filling::{Filling, add_tree};
 use crate::holes::{Asked, form_of};
@@ -39,7 +42,9 @@ pub struct Reader {
 }
 
 /// The byte of the text at which the token at the place begins, or the text's length at the end.
-fn byte_of(tokens: &Tokens, place: usize) -> u32 {
+fn byte_of(tokens: &Tokens, place: usize) -> u32
+    ensures { result ≡ byte_at tokens.now place }
+{
     if place < tokens.len() {
         tokens.at(place).at
     } else {
@@ -48,7 +53,9 @@ fn byte_of(tokens: &Tokens, place: usize) -> u32 {
 }
 
 /// The refusal for which reading stops.
-fn fault_of(tokens: &Tokens, stop: Stop) -> ParseFault {
+fn fault_of(tokens: &Tokens, stop: Stop) -> ParseFault
+    ensures { Told tokens.now stop result }
+{
     match stop {
         Stop::Refused(place) => ParseFault::Syntax {
             at: byte_of(tokens, place),
@@ -59,9 +66,21 @@ fn fault_of(tokens: &Tokens, stop: Stop) -> ParseFault {
 
 /// The place as a number of 32 bits.
 fn narrow(place: usize) -> Result<u32, Stop>
-    ensures { IfOk result (λ small. small ≡ place) }
+    ensures same { IfOk result (λ small. small ≡ place) }
+    ensures memory { IfErr result (λ stop. stop ≡ Stop.Memory) }
 {
     match u32::try_from(place) {
+        Ok(small) => Ok(small),
+        Err(_) => Err(Stop::Memory),
+    }
+}
+
+/// So many levels as a number of 32 bits. More that can't be counted count as want of memory.
+fn narrow_depth(levels: u64) -> Result<u32, Stop>
+    ensures same { IfOk result (λ small. small ≡ levels) }
+    ensures memory { IfErr result (λ stop. stop ≡ Stop.Memory) }
+{
+    match u32::try_from(levels) {
         Ok(small) => Ok(small),
         Err(_) => Err(Stop::Memory),
     }
@@ -77,7 +96,7 @@ impl Reader {
             alloc,
             whole: Want {
                 part,
-                room: u32::MAX - depth,
+                room: u64::MAX - u64::from(depth),
                 tag: start,
             },
             machine: Machine {
@@ -92,7 +111,8 @@ impl Reader {
 
     /// Begins, or takes in what was handed in.
     fn resume(&mut self) -> Result<(), AllocError>
-        ensures going { (items : List Token) → Reading items self.old → (IsOpen self.old → ⊥) → OnOk result (Going items self.new.whole self.new.machine.at self.new.machine.tree self.new.machine.wants) }
+        ensures comes { (items : List Token) (handed : List Listing) → Reading items handed self.old → (IsOpen self.old → ⊥)
+            → OnOk result (Comes items self.new.whole handed self.new.machine.at self.new.machine.far self.new.machine.tree self.new.machine.wants) }
         ensures whole { self.new.whole ≡ self.old.whole }
     {
         match mem::replace(&mut self.next, Next::Over) {
@@ -112,18 +132,22 @@ impl Reader {
     /// Asks for a tree for the hole.
     fn ask(&mut self, tokens: &Tokens, asked: Asked) -> Result<Step, Stop>
         ensures waits { IfOk result (AsksFor asked self.old self.new) }
+        ensures unbegun { IfErr result (Unbegun tokens.now.items asked.hole self.old.machine) }
     {
         if !form_of(asked.hole).begins(kind_at(tokens, self.machine.at)) {
             return Err(self.machine.refuse());
         }
         let place = narrow(self.machine.at)?;
+        let depth = narrow_depth(u64::MAX - asked.want.room)?;
         self.next = Next::Open(asked.want);
-        Ok(Step::Wants(asked.hole, place, u32::MAX - asked.want.room))
+        Ok(Step::Wants(asked.hole, place, depth))
     }
 
     /// Gives the tree that was read.
     fn end(&mut self) -> Result<Step, Stop>
         ensures gives { IfOk result (Gives self.old.machine) }
+        ensures far { self.new.machine.far ≡ self.old.machine.far }
+        ensures memory { IfErr result (λ stop. stop ≡ Stop.Memory) }
     {
         let behind = narrow(self.machine.at)?;
         let tree = mem::replace(&mut self.machine.tree, Tree::new(self.alloc));
@@ -132,8 +156,10 @@ impl Reader {
 
     /// Reads on to the next hole, or to the end.
     fn go_on(&mut self, tokens: &Tokens) -> Result<Step, Stop>
-        ensures steps { Going tokens.now.items self.old.whole self.old.machine.at self.old.machine.tree self.old.machine.wants
-            → IfOk result (Steps tokens.now.items self.old self.new) }
+        ensures steps { (handed : List Listing) → Comes tokens.now.items self.old.whole handed self.old.machine.at self.old.machine.far self.old.machine.tree self.old.machine.wants
+            → IfOk result (Steps tokens.now.items handed self.old self.new) }
+        ensures stops { (handed : List Listing) → Comes tokens.now.items self.old.whole handed self.old.machine.at self.old.machine.far self.old.machine.tree self.old.machine.wants
+            → IfErr result (StopsAt tokens.now.items self.old.whole handed) }
     {
         match read_on(&mut self.machine, self.alloc, tokens)? {
             Some(asked) => self.ask(tokens, asked),
@@ -141,11 +167,13 @@ impl Reader {
         }
     }
 
-    /// Reads on to the next tree that another reader hands in, or to the end.
+    /// Reads on to the next tree that another reader hands in, or to the end. It refuses the first token that no tree for
+    /// its part with the trees handed in has, however deep.
     pub fn step(&mut self, tokens: &Tokens) -> Result<Step, ParseFault>
-        requires reading { Reading tokens.now.items self.old }
+        requires reading { (handed : List Listing) × Reading tokens.now.items handed self.old }
         requires closed { IsOpen self.old → ⊥ }
-        ensures steps { IfOk result (Steps tokens.now.items self.old self.new) }
+        ensures steps { (handed : List Listing) → Reading tokens.now.items handed self.old → IfOk result (Steps tokens.now.items handed self.old self.new) }
+        ensures refused { (handed : List Listing) → Reading tokens.now.items handed self.old → IfErr result (Refuses tokens.now self.old.whole handed) }
     {
         self.resume()?;
         match self.go_on(tokens) {
@@ -157,7 +185,7 @@ impl Reader {
     /// Hands in the tree that the last step wanted, and the place of the token behind it. It takes no memory.
     pub fn fill(&mut self, tree: Tree, behind: u32)
         requires { IsOpen self.old }
-        ensures handed { (items : List Token) → Reading items self.old → Hands items self.old tree behind → Reading items self.new }
+        ensures handed { (items : List Token) (handed : List Listing) → Reading items handed self.old → Hands items self.old tree behind → Reading items (handed ++ tree ∷ []) self.new }
         ensures closed { IsOpen self.new → ⊥ }
         ensures whole { self.new.whole ≡ self.old.whole }
     {

@@ -1,5 +1,5 @@
 //! Drives the readers of markup and of queries: the engine reads what they leave.
-ghost use Rattle.std.specs.Prelude.{◌≡◌, ◌+◌, ℕ, IfOk};
+ghost use Rattle.std.specs.Prelude.{◌≡◌, ◌+◌, ℕ, length, IfOk};
 ghost use Rattle.surface_grammar.specs.declared.form.Form.TheVariants as f;
 ghost use Rattle.surface_grammar.specs.declared.part.Part.TheVariants.{Many, One};
 ghost use Rattle.grammar_engine.specs.Reads.{Reads};
@@ -43,14 +43,15 @@ fn filling_of(
     place: u32,
     depth: u32,
 ) -> Result<Found, ParseFault>
-    ensures { IfOk result (λ found. (room : ℕ) → room + depth ≡ most → Reads tokens.now.items (One (form_of hole)) place room found.tree found.behind) }
+    ensures reads { IfOk result (λ found. (room : ℕ) → room + depth ≡ most → Reads tokens.now.items (One (form_of hole)) place room found.tree found.behind) }
+    ensures place { IfOk result (λ found. found.behind ≡ place + length found.tree.leaves) }
 {
     match read_part(
         alloc,
         tokens,
         Part::One(form_of(hole)),
         place as usize,
-        u32::MAX - depth,
+        u64::MAX - u64::from(depth),
         2,
     ) {
         Ok(read) => narrowed(read),

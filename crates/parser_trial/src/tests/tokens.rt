@@ -1,4 +1,6 @@
 //! The tokens of a text that is tried.
+ghost use Rattle.std.specs.Prelude.{◌<◌, ◌^◌, length, IfSome};
+
 use std::alloc::Global;
 use surface_tree::Tokens;
 use ur_lexer::lex;
@@ -7,9 +9,14 @@ use ur_lexer::lex;
 const LONGEST: usize = 100_000;
 
 /// The tokens of a text, where it has some.
-pub fn tokens_of(alloc: Global, text: &str) -> Option<Tokens> {
+pub fn tokens_of(alloc: Global, text: &str) -> Option<Tokens>
+    ensures { IfSome result (λ tokens. length tokens.items < 2 ^ 32) }
+{
     if text.len() > LONGEST {
         return None;
     }
-    lex(alloc, text).ok()
+    match lex(alloc, text) {
+        Ok(tokens) => Some(tokens),
+        Err(_) => None,
+    }
 }
