@@ -1,24 +1,20 @@
 -- Kinds under further binders and guards, and with constructors put for binders.
-use Rattle.std.proofs.Common.{◌≡◌, ℕ, zero, suc, ◌+◌, ◌<◌, ◌-◌, Bool, true, false, if◌then◌else◌, nat_lt, List, [], ◌∷◌, ◌++◌, map, length, Some, slice_get, refl, ap, sym, subst, ◌∙◌, arith, get_or}
+use Rattle.std.proofs.Common.{◌≡◌, ℕ, zero, suc, ◌+◌, ◌<◌, List, [], ◌∷◌, ◌++◌, map, length, Some, slice_get, refl, ap, sym, subst, ◌∙◌, arith, get_or}
 use Rattle.std.specs.List.{Contains}
 use Rattle.std.proofs.lemmas.List.{length-map}
-use Rattle.std.proofs.lemmas.Option.{slice_get-get_or, get_or_from_slice_get}
 use Rattle.std.proofs.lemmas.List as lists
-use Rattle.con_terms.specs.Trees.{Kd, types, names, row_of, to, Kds, Cn, var, name, app, row, cat, map_of, Cns, Prs, names_of}
+use Rattle.con_terms.specs.Trees.{Kd, Kds, Cn, var, Cns, Prs, names_of}
 use Rattle.con_terms.specs.Substitution.{replaced, shift, moved, subst_at, put}
 use Rattle.con_terms.specs.Substitution as walk
 use Rattle.con_terms.specs.Apart.{Guards, Separated, names_differ, by_guard, by_guard_turned, Apart, apart, PairwiseApart}
 use Rattle.con_terms.specs.Kinded.{Scope, bind, assume, basic_kind, Kinded, of_var, of_basic, of_arrow, of_poly, of_guarded, of_record, of_app, of_lambda, of_unit, of_name, of_row, of_cat, of_map, of_tuple, of_proj, KindedAll, no_components, a_component, KindedPairs, no_fields, a_field}
-use Rattle.con_terms.proofs.Walks.{walks_meet, walk_same, shift_shift, shift_sum, subst_shift, subst_gone}
+use Rattle.con_terms.proofs.Walks.{walks_meet, walk_same, shift_shift, shift_sum, shift_subst, subst_shift, subst_gone, subst_subst}
 use Rattle.con_terms.proofs.Equals.{Equal_shift, Equal_subst_at}
-use Rattle.core_terms.specs.KindLaws.{is_whole, guards_with, guards_shifted}
-use Rattle.core_terms.proofs.Moving.{Walks, Images, Moves, kinded_moved, contains_map}
+use Rattle.core_terms.specs.KindLaws.{Widens, guards_with, guards_shifted}
+use Rattle.core_terms.proofs.Moving.{Walks, Images, Moves, kinded_moved}
+use Rattle.core_terms.proofs.Containing.{contains_map, at_place}
 
 -- shifts
-either_whole : (b : Bool) (x y : Cn) → is_whole x ≡ true → is_whole y ≡ true → is_whole (if b then x else y) ≡ true
-either_whole true x y h k = h
-either_whole false x y h k = k
-
 moved_next : (by n i : ℕ) → moved by (n + 1) (suc i) ≡ shift 1 (moved by n i) 0
 moved_next by n i = grind arith
 
@@ -26,22 +22,22 @@ pub shift_walks : (by : ℕ) → Walks (moved by)
 shift_walks by = record {
   first = λ n. grind arith;
   next = λ n i. moved_next by n i;
-  whole = λ n i. either_whole (nat_lt i n) (var i) (var (i + by)) refl refl;
-  meets = λ c n. sym (shift_shift by 1 0 (n + 1) n c (omega arith) (omega arith));
+  raised = λ k c n. sym (shift_shift by k 0 (n + k) n c refl (omega arith));
+  put = λ b a n. shift_subst by 0 n n a b (omega arith);
   equal = λ h n. Equal_shift h by n;
 }
 
 -- a variable of a kind
-abbrev IsBound : Scope → Cn → Kd → Type 0
+abbrev pub IsBound : Scope → Cn → Kd → Type 0
 IsBound H c k = (i : ℕ) × (c ≡ var i) × (slice_get H.binders i ≡ Some k)
 
-var_shifted : (i : ℕ) → shift 1 (var i) 0 ≡ var (suc i)
+pub var_shifted : (i : ℕ) → shift 1 (var i) 0 ≡ var (suc i)
 var_shifted i = grind arith
 
 bound_kinded : {H : Scope} {c : Cn} {k : Kd} → IsBound H c k → Kinded H c k
 bound_kinded {H} {c} {k} b = subst (λ x. Kinded H x k) (sym b.1) (of_var b.2)
 
-bound_images : Images IsBound
+pub bound_images : Images IsBound
 bound_images = record {
   kinded = bound_kinded;
   here = λ H l. (0, refl, refl);
@@ -62,7 +58,7 @@ moved_first by n = grind arith
 moved_suc : (by n i : ℕ) → moved by (suc n) (suc i) ≡ shift 1 (moved by n i) 0
 moved_suc by n i = grind arith
 
-still_bound : (inner new outer : List Kd) (i : ℕ) (k : Kd) → slice_get (inner ++ outer) i ≡ Some k → (j : ℕ) × (moved (length new) (length inner) i ≡ var j) × (slice_get (inner ++ new ++ outer) j ≡ Some k)
+pub still_bound : (inner new outer : List Kd) (i : ℕ) (k : Kd) → slice_get (inner ++ outer) i ≡ Some k → (j : ℕ) × (moved (length new) (length inner) i ≡ var j) × (slice_get (inner ++ new ++ outer) j ≡ Some k)
 still_bound [] new outer i k e = (i + length new, moved_none (length new) i, behind_new new outer i ∙ e)
 still_bound (l ∷ inner) new outer zero k e = (0, moved_first (length new) (length inner), e)
 still_bound (l ∷ inner) new outer (suc i) k e =
@@ -77,7 +73,7 @@ kinds_stay inner outer new gs basics c k h =
     kinded_moved bound_images (shift_walks (length new)) m h
 
 -- under one more binder
-under_one : {H : Scope} {c : Cn} {k l : Kd} → Kinded H c k → Kinded (bind l H) (shift 1 c 0) k
+pub under_one : {H : Scope} {c : Cn} {k l : Kd} → Kinded H c k → Kinded (bind l H) (shift 1 c 0) k
 under_one {H} {c} {k} {l} h =
     let m : Moves IsBound (moved 1) 0 H (bind l H) = record { image = λ i j e. (suc i, moved_none 1 i ∙ ap var (let s : i + 1 ≡ suc i = omega arith in s), e); guards = refl; basics = refl } in
     kinded_moved bound_images (shift_walks 1) m h
@@ -85,9 +81,6 @@ under_one {H} {c} {k} {l} h =
 -- more guards
 abbrev pub Wider : Guards → Guards → Type 0
 Wider gs hs = (g : Cn × Cn) → Contains gs g → Contains hs g
-
-at_place : {X : Type 0} (xs : List X) (i : ℕ) (d : X) → i < length xs → Contains xs (get_or xs i d)
-at_place xs i d h = (i, h, get_or_from_slice_get xs i (get_or xs i d) (get_or xs i d) (slice_get-get_or xs i d h))
 
 wider_map : (f : Cn × Cn → Cn × Cn) (gs hs : Guards) → Wider gs hs → Wider (map f gs) (map f hs)
 wider_map f gs hs w g c =
@@ -106,11 +99,6 @@ apart_wider w (apart a b h) = apart a b (λ k d i j e l. separated_wider w (h k 
 pairwise_wider : (gs hs : Guards) (ns : List Cn) → Wider gs hs → PairwiseApart gs ns → PairwiseApart hs ns
 pairwise_wider gs hs [] w h = tt
 pairwise_wider gs hs (n ∷ ns) w h = ((λ k d i. apart_wider w (h.0 k d i)), pairwise_wider gs hs ns w h.1)
-
-pub record Widens (G H : Scope) : Type 0 where
-  pub binders : H.binders ≡ G.binders
-  pub guards : Wider G.guards H.guards
-  pub basics : H.basics ≡ G.basics
 
 pub widens_bind : {G H : Scope} (l : Kd) → Widens G H → Widens (bind l G) (bind l H)
 widens_bind {G} {H} l w = record { binders = ap (λ bs. l ∷ bs) w.binders; guards = wider_map (λ g. (shift 1 g.0 0, shift 1 g.1 0)) G.guards H.guards w.guards; basics = w.basics }
@@ -151,49 +139,30 @@ mutual
 pub kinds_stay_with_guards : (binders : List Kd) (gs hs : Guards) (basics : List (ℕ × Kd)) (c : Cn) (k : Kd) → Wider gs hs → Kinded (record { binders = binders; guards = gs; basics = basics }) c k → Kinded (record { binders = binders; guards = hs; basics = basics }) c k
 kinds_stay_with_guards binders gs hs basics c k w h = kinded_wider (record { binders = refl; guards = w; basics = refl }) h
 
-assumed_too : {H : Scope} {a b c : Cn} {k : Kd} → Kinded H c k → Kinded (assume a b H) c k
+pub assumed_too : {H : Scope} {a b c : Cn} {k : Kd} → Kinded H c k → Kinded (assume a b H) c k
 assumed_too h = kinded_wider (record { binders = refl; guards = λ g x. (suc x.0, omega (arith, x.1), x.2); basics = refl }) h
 
 -- substitutions
-whole_app : (b : Bool) (x y r : Cn) → is_whole (app x r) ≡ true → is_whole (app y r) ≡ true → is_whole (app (if b then x else y) r) ≡ true
-whole_app true x y r h k = h
-whole_app false x y r h k = k
-
-whole_app_app : (b : Bool) (x y g r : Cn) → is_whole (app (app x g) r) ≡ true → is_whole (app (app y g) r) ≡ true → is_whole (app (app (if b then x else y) g) r) ≡ true
-whole_app_app true x y g r h k = h
-whole_app_app false x y g r h k = k
-
-whole_shifted : (by : ℕ) (x : Cn) (n : ℕ) → is_whole x ≡ true → is_whole (shift by x n) ≡ true
-whole_shifted by (var i) n h = either_whole (nat_lt i n) (var i) (var (i + by)) refl refl
-whole_shifted by (row k ps) n h = h
-whole_shifted by (cat a b) n h = h
-whole_shifted by (map_of k l) n h = h
-whole_shifted by (app (map_of k l) f) n h = h
-whole_shifted by (app (app (map_of k l) f) r) n h = h
-whole_shifted by (app (var i) r) n h = whole_app (nat_lt i n) (var i) (var (i + by)) (shift by r n) refl refl
-whole_shifted by (app (app (var i) g) r) n h = whole_app_app (nat_lt i n) (var i) (var (i + by)) (shift by g n) (shift by r n) refl refl
-whole_shifted by _ n h = refl
-
 put_first : (a : Cn) (n : ℕ) → put a (n + 1) 0 ≡ var 0
 put_first a n = grind arith
 
 put_next : (a : Cn) (n i : ℕ) → put a (n + 1) (suc i) ≡ shift 1 (put a n i) 0
 put_next a n i = grind (arith, shift_sum n 1 0 (n + 1) a (omega arith) (omega arith))
 
-pub put_walks : (a : Cn) → is_whole a ≡ true → Walks (put a)
-put_walks a h = record {
+pub put_walks : (a : Cn) → Walks (put a)
+put_walks a = record {
   first = λ n. put_first a n;
   next = λ n i. put_next a n i;
-  whole = λ n i. either_whole (nat_lt i n) (var i) (if nat_lt n i then var (i - 1) else shift n a 0) refl (either_whole (nat_lt n i) (var (i - 1)) (shift n a 0) refl (whole_shifted n a 0 h));
-  meets = λ c n. sym (subst_shift 1 0 (n + 1) n a c (omega arith) (omega arith));
+  raised = λ k c n. sym (subst_shift k 0 (n + k) n a c refl (omega arith));
+  put = λ b x n. subst_subst 0 n n x a b (omega arith);
   equal = λ e n. Equal_subst_at e a n;
 }
 
-kinded_images : Images Kinded
+pub kinded_images : Images Kinded
 kinded_images = record { kinded = λ h. h; here = λ H l. of_var refl; deeper = under_one; assumed = assumed_too }
 
 -- where a number is: the one that is put for, or another one
-data Found (a : Cn) (inner outer : List Kd) (l : Kd) (i : ℕ) (k : Kd) : Type 0 where
+pub data Found (a : Cn) (inner outer : List Kd) (l : Kd) (i : ℕ) (k : Kd) : Type 0 where
   this : put a (length inner) i ≡ shift (length inner) a 0 → l ≡ k → Found a inner outer l i k
   other : (j : ℕ) → put a (length inner) i ≡ var j → slice_get (inner ++ outer) j ≡ Some k → Found a inner outer l i k
 
@@ -213,88 +182,40 @@ one_deeper : {a : Cn} {inner outer : List Kd} {x l : Kd} {i : ℕ} {k : Kd} → 
 one_deeper {a} {inner} {i = i} (this h e) = this (put_suc a (length inner) i ∙ ap (λ y. shift 1 y 0) h ∙ shift_sum (length inner) 1 0 (suc (length inner)) a (omega arith) (omega arith)) e
 one_deeper {a} {inner} {i = i} (other j h e) = other (suc j) (put_suc a (length inner) i ∙ ap (λ y. shift 1 y 0) h ∙ var_shifted j) e
 
-find : (a : Cn) (inner outer : List Kd) (l : Kd) (i : ℕ) (k : Kd) → slice_get (inner ++ l ∷ outer) i ≡ Some k → Found a inner outer l i k
+pub find : (a : Cn) (inner outer : List Kd) (l : Kd) (i : ℕ) (k : Kd) → slice_get (inner ++ l ∷ outer) i ≡ Some k → Found a inner outer l i k
 find a [] outer l zero k e = this (put_here a) cc
 find a [] outer l (suc i) k e = other i (put_at_none a i) e
 find a (x ∷ inner) outer l zero k e = other 0 (put_zero a (length inner)) e
 find a (x ∷ inner) outer l (suc i) k e = one_deeper (find a inner outer l i k e)
 
-image_kinded : {a : Cn} {inner outer : List Kd} {l : Kd} {i : ℕ} {k : Kd} {H : Scope} → H.binders ≡ inner ++ outer → Kinded H (shift (length inner) a 0) l → Found a inner outer l i k → Kinded H (put a (length inner) i) k
+pub image_kinded : {a : Cn} {inner outer : List Kd} {l : Kd} {i : ℕ} {k : Kd} {H : Scope} → H.binders ≡ inner ++ outer → Kinded H (shift (length inner) a 0) l → Found a inner outer l i k → Kinded H (put a (length inner) i) k
 image_kinded {a} {inner} {outer} {l} {i} {k} {H} bs h (this e q) = subst (λ x. Kinded H x k) (sym e) (subst (λ j. Kinded H (shift (length inner) a 0) j) q h)
 image_kinded {a} {inner} {outer} {l} {i} {k} {H} bs h (other j e g) = subst (λ x. Kinded H x k) (sym e) (of_var (ap (λ ys. slice_get ys j) bs ∙ g))
 
-pub wholes_substitute : (inner outer : List Kd) (l : Kd) (gs : Guards) (basics : List (ℕ × Kd)) (a c : Cn) (k : Kd) → is_whole a ≡ true → Kinded (record { binders = inner ++ outer; guards = guards_with a (length inner) gs; basics = basics }) (shift (length inner) a 0) l → Kinded (record { binders = inner ++ l ∷ outer; guards = gs; basics = basics }) c k → Kinded (record { binders = inner ++ outer; guards = guards_with a (length inner) gs; basics = basics }) (subst_at a c (length inner)) k
-wholes_substitute inner outer l gs basics a c k w h g =
+pub constructors_substitute : (inner outer : List Kd) (l : Kd) (gs : Guards) (basics : List (ℕ × Kd)) (a c : Cn) (k : Kd) → Kinded (record { binders = inner ++ outer; guards = guards_with a (length inner) gs; basics = basics }) (shift (length inner) a 0) l → Kinded (record { binders = inner ++ l ∷ outer; guards = gs; basics = basics }) c k → Kinded (record { binders = inner ++ outer; guards = guards_with a (length inner) gs; basics = basics }) (subst_at a c (length inner)) k
+constructors_substitute inner outer l gs basics a c k h g =
     let G : Scope = record { binders = inner ++ l ∷ outer; guards = gs; basics = basics } in
     let H : Scope = record { binders = inner ++ outer; guards = guards_with a (length inner) gs; basics = basics } in
     let m : Moves Kinded (put a) (length inner) G H = record { image = λ i j e. image_kinded refl h (find a inner outer l i j e); guards = refl; basics = refl } in
-    kinded_moved kinded_images (put_walks a w) m g
+    kinded_moved kinded_images (put_walks a) m g
 
--- a type is whole
-name_kind : {G : Scope} {s : ℕ} {j : Kd} → Kinded G (name s) j → j ≡ names
-name_kind of_name = refl
-
-row_kind : {G : Scope} {k j : Kd} {ps : Prs} → Kinded G (row k ps) j → j ≡ row_of k
-row_kind (of_row p h) = refl
-
-cat_kind : {G : Scope} {a b : Cn} {j : Kd} → Kinded G (cat a b) j → (k : Kd) × (j ≡ row_of k)
-cat_kind (of_cat {k = k} p q h) = (k, refl)
-
-map_kind : {G : Scope} {k l j : Kd} → Kinded G (map_of k l) j → j ≡ to (to k l) (to (row_of k) (row_of l))
-map_kind of_map = refl
-
-app_kind : {G : Scope} {f r : Cn} {j : Kd} → Kinded G (app f r) j → (k : Kd) × Kinded G f (to k j)
-app_kind (of_app {k = k} f r) = (k, f)
-
-whole_type : {G : Scope} (a : Cn) → Kinded G a types → is_whole a ≡ true
-whole_type (row k ps) h = let e : types ≡ row_of k = row_kind h in cc
-whole_type (cat a b) h = let (k, e) = cat_kind h in cc
-whole_type (map_of k l) h = let e : types ≡ to (to k l) (to (row_of k) (row_of l)) = map_kind h in cc
-whole_type (app (map_of k l) f) h =
-    let (m, g) = app_kind h in
-    let e : to m types ≡ to (to k l) (to (row_of k) (row_of l)) = map_kind g in cc
-whole_type (app (app (map_of k l) f) r) h =
-    let (m, g) = app_kind h in
-    let (o, i) = app_kind g in
-    let e : to o (to m types) ≡ to (to k l) (to (row_of k) (row_of l)) = map_kind i in cc
-whole_type _ h = refl
-
-whole_name : {G : Scope} (a : Cn) → Kinded G a names → is_whole a ≡ true
-whole_name (row k ps) h = let e : names ≡ row_of k = row_kind h in cc
-whole_name (cat a b) h = let (k, e) = cat_kind h in cc
-whole_name (map_of k l) h = let e : names ≡ to (to k l) (to (row_of k) (row_of l)) = map_kind h in cc
-whole_name (app (map_of k l) f) h =
-    let (m, g) = app_kind h in
-    let e : to m names ≡ to (to k l) (to (row_of k) (row_of l)) = map_kind g in cc
-whole_name (app (app (map_of k l) f) r) h =
-    let (m, g) = app_kind h in
-    let (o, i) = app_kind g in
-    let e : to o (to m names) ≡ to (to k l) (to (row_of k) (row_of l)) = map_kind i in cc
-whole_name _ h = refl
-
-shift_none : (c : Cn) → shift 0 c 0 ≡ c
+pub shift_none : (c : Cn) → shift 0 c 0 ≡ c
 shift_none c =
     let id : ℕ → ℕ → Cn = λ _ i. var i in
     let met : replaced (moved 0) (replaced id c 0) 0 ≡ replaced id (replaced id c 0) 0 =
     walks_meet id (moved 0) id id (λ _ _ _ _. Unit {0}) (record { deeper = λ d n m e r. tt; at_var = λ d n m e i r. grind arith }) 0 0 0 0 tt c in
     subst (λ x. replaced (moved 0) x 0 ≡ x) (walk_same c 0) (met ∙ walk_same (replaced id c 0) 0)
 
-put_back : (a : Cn) (gs : Guards) → guards_with a 0 (map (λ (g : Cn × Cn). (shift 1 g.0 0, shift 1 g.1 0)) gs) ≡ gs
+pub put_back : (a : Cn) (gs : Guards) → guards_with a 0 (map (λ (g : Cn × Cn). (shift 1 g.0 0, shift 1 g.1 0)) gs) ≡ gs
 put_back a [] = refl
 put_back a (g ∷ gs) =
     let first : subst_at a (shift 1 g.0 0) 0 ≡ g.0 = subst_gone a g.0 0 0 (omega arith) ∙ shift_none g.0 in
     let second : subst_at a (shift 1 g.1 0) 0 ≡ g.1 = subst_gone a g.1 0 0 (omega arith) ∙ shift_none g.1 in
     rw (first, second) (ap (λ rest. g ∷ rest) (put_back a gs))
 
-whole_substitutes : (G : Scope) (l : Kd) (a c : Cn) (k : Kd) → is_whole a ≡ true → Kinded G a l → Kinded (bind l G) c k → Kinded G (walk.subst c a) k
-whole_substitutes G l a c k w h g =
+pub kinds_substitute : (G : Scope) (l : Kd) (a c : Cn) (k : Kd) → Kinded G a l → Kinded (bind l G) c k → Kinded G (walk.subst c a) k
+kinds_substitute G l a c k h g =
     let same = put_back a G.guards in
     let H : Guards → Scope = λ gs. record { binders = G.binders; guards = gs; basics = G.basics } in
     let here : Kinded (H (guards_with a 0 (bind l G).guards)) (shift 0 a 0) l = subst (λ gs. Kinded (H gs) (shift 0 a 0) l) (sym same) (subst (λ x. Kinded G x l) (sym (shift_none a)) h) in
-    subst (λ gs. Kinded (H gs) (walk.subst c a) k) same (wholes_substitute [] G.binders l (bind l G).guards G.basics a c k w here g)
-
-pub types_substitute : (G : Scope) (a c : Cn) (k : Kd) → Kinded G a types → Kinded (bind types G) c k → Kinded G (walk.subst c a) k
-types_substitute G a c k h g = whole_substitutes G types a c k (whole_type a h) h g
-
-pub names_substitute : (G : Scope) (a c : Cn) (k : Kd) → Kinded G a names → Kinded (bind names G) c k → Kinded G (walk.subst c a) k
-names_substitute G a c k h g = whole_substitutes G names a c k (whole_name a h) h g
+    subst (λ gs. Kinded (H gs) (walk.subst c a) k) same (constructors_substitute [] G.binders l (bind l G).guards G.basics a c k here g)

@@ -11,9 +11,11 @@ use Rattle.core_terms.specs.Types.{at_types, type_row, one_field}
 use Rattle.core_terms.specs.Datatypes.{datatype_of}
 use Rattle.core_terms.specs.Scopes.{Sc}
 use Rattle.core_terms.specs.Seen.{a_number, a_text, a_datatype, nothing_more, seen_at, seen_data}
+use Rattle.core_terms.specs.Asks.{CoverAsked, asking_cover}
 use Rattle.core_terms.specs.Patterns.{PatTyped, by_equal, of_any, of_binds, of_number, of_text, of_bare, of_holding, of_fields, of_more_fields, of_annotated, PatFieldsTyped, of_none, of_one, AtConstructor}
 use Rattle.core_terms.specs.PatternFaults.{AtData, PatFound, any_binds, binds_one, number_binds, text_binds, bare_binds, holding_binds, fields_bind, more_fields_bind, annotated_binds, PatFieldsFound, none_bind, one_binds}
-use Rattle.core_terms.proofs.Normal.{normal_equal, alike_equal, by_pieces, picks_equal}
+use Rattle.core_terms.proofs.Judging.{has_kind}
+use Rattle.core_terms.proofs.Normal.{normal_equal, alike_equal, by_pieces, field_among}
 
 -- what is seen as a datatype at arguments is its symbol at them
 pub record SeenAs (ds : List Dt) (whole : Cn) (d : Dt) (xs : List Cn) : Type 0 where
@@ -43,7 +45,7 @@ by_symbol ds s args d xs true c q = cc
 by_symbol ds s args d xs false true q = cc
 by_symbol ds s args d xs false false q = by_datatype ds s args d xs (datatype_of ds s) refl q
 
-seen_as : (ds : List Dt) (c : Cn) (args : List Cn) (d : Dt) (xs : List Cn) → seen_at ds c args ≡ a_datatype d xs → SeenAs ds (at_types c args) d xs
+pub seen_as : (ds : List Dt) (c : Cn) (args : List Cn) (d : Dt) (xs : List Cn) → seen_at ds c args ≡ a_datatype d xs → SeenAs ds (at_types c args) d xs
 seen_as ds (basic s) args d xs h = by_symbol ds s args d xs (s == int_name) (s == string_name) h
 seen_as ds (app f a) args d xs h = seen_as ds f (a ∷ args) d xs h
 seen_as ds _ args d xs h = cc
@@ -53,7 +55,7 @@ symbol_if : (b : Bool) (ds : List Dt) (s : ℕ) (e d : Dt) → (e.symbol == s) �
 symbol_if true ds s e d q go g = let is : e ≡ d = cc in subst (λ (x : Dt). x.symbol ≡ s) is ((Decides-eqb e.symbol s).0 q)
 symbol_if false ds s e d q go g = go g
 
-symbol_of : (ds : List Dt) (s : ℕ) (d : Dt) → datatype_of ds s ≡ Some d → d.symbol ≡ s
+pub symbol_of : (ds : List Dt) (s : ℕ) (d : Dt) → datatype_of ds s ≡ Some d → d.symbol ≡ s
 symbol_of [] s d h = cc
 symbol_of (e ∷ ds) s d h = symbol_if (e.symbol == s) ds s e d refl (symbol_of ds s d) h
 
@@ -65,32 +67,32 @@ at_constructor {G} {s} {j} {t} {c} {args} x =
     (record { declared_as = x.d; declared = x.constructs.declared; constructor = x.constructs.constructor; number_of_types = w.number }, back (along (normal_equal x.normal) is))
 
 -- the fields that patterns name, and the others
-pub record FieldsOf (G : Sc) (fs : Pfs) (ps rs ts : List Cn) : Type 0 where
+pub record FieldsOf (C : CoverAsked) (G : Sc) (fs : Pfs) (ps rs ts : List Cn) : Type 0 where
   pub named : Prs
-  pub typed : PatFieldsTyped G fs named ts
+  pub typed : PatFieldsTyped (asking_cover C) G fs named ts
   pub whole : Equal (cats types ps) (cat (type_row named) (cats types rs))
 
 one_more : (n m v : Cn) (ps qs rs : List Cn) (xs : Prs) → Equal n m → Equal (cats types ps) (cat (one_field m v) (cats types qs)) → Equal (cats types qs) (cat (type_row xs) (cats types rs)) → Equal (cats types ps) (cat (type_row (pair n v xs)) (cats types rs))
 one_more n m v ps qs rs xs h g k = step g (step (in_cat (in_row (one_pair (back h) same none_pairs)) k) (step (back cat_groups) (in_cat (back row_splits) same)))
 
 mutual
-  pub pattern_typed : {G : Sc} {p : Pt} {t : Cn} {ts : List Cn} → PatFound G p t ts → PatTyped G p t ts
+  pub pattern_typed : {C : CoverAsked} {G : Sc} {p : Pt} {t : Cn} {ts : List Cn} → PatFound G p t ts → PatTyped (asking_cover C) G p t ts
   pattern_typed any_binds = of_any
-  pattern_typed (binds_one k h) = by_equal (of_binds k) (back (alike_equal h))
-  pattern_typed (number_binds h) = by_equal of_number (back (alike_equal h))
-  pattern_typed (text_binds h) = by_equal of_text (back (alike_equal h))
-  pattern_typed (bare_binds a h) = let (c, e) = at_constructor a in by_equal (of_bare c h) e
-  pattern_typed (holding_binds a h q) = let (c, e) = at_constructor a in by_equal (of_holding c h (pattern_typed q)) e
+  pattern_typed (binds_one k h) = by_equal (of_binds (has_kind k)) (back (alike_equal h)) tt
+  pattern_typed (number_binds h) = by_equal of_number (back (alike_equal h)) tt
+  pattern_typed (text_binds h) = by_equal of_text (back (alike_equal h)) tt
+  pattern_typed (bare_binds a h) = let (c, e) = at_constructor a in by_equal (of_bare c h) e tt
+  pattern_typed (holding_binds a h q) = let (c, e) = at_constructor a in by_equal (of_holding c h (pattern_typed q)) e tt
   pattern_typed (fields_bind {r = r} n fs) =
       let w = pattern_fields_typed fs in
-      by_equal (of_fields w.typed) (back (step (normal_equal n) (in_record (step (by_pieces r) (step w.whole (step cat_swaps cat_unit))))))
+      by_equal (of_fields w.typed) (back (step (normal_equal n) (in_record (step (by_pieces r) (step w.whole (step cat_swaps cat_unit)))))) tt
   pattern_typed (more_fields_bind {r = r} n fs) =
       let w = pattern_fields_typed fs in
-      by_equal (of_more_fields w.typed) (back (step (normal_equal n) (in_record (step (by_pieces r) w.whole))))
-  pattern_typed (annotated_binds k h q) = by_equal (of_annotated k (pattern_typed q)) (alike_equal h)
+      by_equal (of_more_fields w.typed) (back (step (normal_equal n) (in_record (step (by_pieces r) w.whole)))) tt
+  pattern_typed (annotated_binds k h q) = by_equal (of_annotated (has_kind k) (pattern_typed q)) (back (alike_equal h)) tt
 
-  pattern_fields_typed : {G : Sc} {fs : Pfs} {ps rs ts : List Cn} → PatFieldsFound G fs ps rs ts → FieldsOf G fs ps rs ts
+  pattern_fields_typed : {C : CoverAsked} {G : Sc} {fs : Pfs} {ps rs ts : List Cn} → PatFieldsFound G fs ps rs ts → FieldsOf C G fs ps rs ts
   pattern_fields_typed none_bind = record { named = no_pairs; typed = of_none; whole = back cat_unit }
   pattern_fields_typed (one_binds {n = n} {m = m} {v = v} {ps = ps} {qs = qs} {rs = rs} k h p q fs) =
       let w = pattern_fields_typed fs in
-      record { named = pair n v w.named; typed = of_one k (pattern_typed q) w.typed; whole = one_more n m v ps qs rs w.named (normal_equal h) (picks_equal p) w.whole }
+      record { named = pair n v w.named; typed = of_one (has_kind k) (pattern_typed q) w.typed; whole = one_more n m v ps qs rs w.named (normal_equal h) (field_among m ps v qs p) w.whole }

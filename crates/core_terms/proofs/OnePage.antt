@@ -1,9 +1,9 @@
 -- The program of one page: that it is accepted, and its answer.
 use Rattle.std.proofs.Common.{◌≡◌, ℕ, zero, suc, ◌<◌, true, false, List, [], ◌∷◌, Some, None, refl, subst, arith}
-use Rattle.std.specs.Prelude.{codes, Contains}
+use Rattle.std.specs.Prelude.{codes, Contains, slice_get}
 use Rattle.std.specs.List.{All}
 use Rattle.std.proofs.lemmas.List.Elements.{All-from_recursion}
-use Rattle.con_terms.specs.Trees.{types, units, row_of, Cn, var, basic, record_of, name, no_pairs, pair}
+use Rattle.con_terms.specs.Trees.{Kd, types, units, row_of, Cn, var, basic, record_of, name, no_pairs, pair}
 use Rattle.con_terms.specs.Equal.{same}
 use Rattle.con_terms.specs.Kinded.{Kinded, of_basic, of_app, of_row, of_name, of_unit, no_fields, a_field}
 use Rattle.table_rows.specs.Wires.{no_wires}
@@ -15,17 +15,22 @@ use Rattle.xml_trees.specs.Trees.{Nothing, Element}
 use Rattle.xml_trees.specs.Grammar.{NoAttributes, NoMarkup, Closed}
 use Rattle.xml_trees.specs.Markup.{Empty}
 use Rattle.core_terms.specs.Names.{html_context}
-use Rattle.core_terms.specs.Types.{no_types, type_row, at_types, page_type, unit_row}
-use Rattle.core_terms.specs.Trees.{Cd, Dt}
+use Rattle.core_terms.specs.Types.{transaction_of, no_types, type_row, at_types, page_type, unit_row}
+use Rattle.core_terms.specs.declared.basis.BasisName.TheVariants.{Return}
+use Rattle.core_terms.specs.Trees.{basis, call, no_items, with_term, Cd, Dt}
+use Rattle.core_terms.specs.Leaves.{NamesThere, FormFits}
 use Rattle.core_terms.specs.Datatypes.{constructor_of}
 use Rattle.core_terms.specs.Scopes.{Sc}
+use Rattle.core_terms.specs.Compared.{Alike}
+use Rattle.kind_rules.specs.Compared.{comparison_units}
 use Rattle.core_terms.specs.Typed.{of_basis, of_call, of_element, to_con, to_term, to_nothing, of_holding, no_attribute, no_node}
 use Rattle.core_terms.specs.Declarations.{Value, values, no_decls, a_val, scope_with, Distinct}
 use Rattle.core_terms.specs.Entries.{IsEntry, by_export, by_link, by_action, Shaped, no_argument, no_values, get_alone, RoutesOf, no_datatype, carried, CasesShaped, no_case, a_case, holds_nothing, holds_one, of_parameter, of_datatype, of_fields, none_shaped, one_shaped, no_field_shaped, field_shaped, all_datatypes}
-use Rattle.core_terms.specs.Accepts.{TextsDiffer, type_symbols, EntriesDiffer}
+use Rattle.core_terms.specs.Accepts.{FoldersDiffer, TextsDiffer, type_symbols, EntriesDiffer}
 use Rattle.core_terms.proofs.Differing.{all_plain_by_test, differ_by_test, distinct_by_test}
 use Rattle.core_terms.specs.Requests.{by_get, no_more, with_page, ShortEnough}
-use Rattle.core_terms.specs.ExampleProgram.{one_page, OnePageIsAccepted, OnePageIsAnswered}
+use Rattle.core_terms.specs.ExampleTerms.{said, with_added}
+use Rattle.core_terms.specs.ExampleProgram.{one_page, empty_body, OnePageIsAccepted, OnePageIsAnswered}
 
 none_in : {X : Type 0} {x : X} → Contains [] x → ⊥
 none_in c = absurd (omega (arith, c.1))
@@ -52,6 +57,23 @@ located v (suc k, h, e) = absurd (omega (arith, h))
 distinct : Distinct (type_symbols one_page)
 distinct = distinct_by_test (type_symbols one_page) refl
 
+no_folder_there : (i : ℕ) (f : Kd × ℕ) → slice_get [] i ≡ Some f → ⊥
+no_folder_there zero f e = cc
+no_folder_there (suc i) f e = cc
+
+no_folders : FoldersDiffer one_page.folders
+no_folders i j f g h k e = absurd (no_folder_there i f h)
+
+-- its names have texts
+html_names : NamesThere 27 (unit_row (html_context ∷ []))
+html_names = (omega arith, tt, tt)
+
+page_names : NamesThere 27 (transaction_of page_type)
+page_names = (tt, (((tt, html_names), tt), tt))
+
+term_fits : FormFits 27 (call (said (basis Return)) (with_added page_type (with_term empty_body no_items)))
+term_fits = (tt, (page_names.1, ((tt, html_names, tt, tt, tt), tt)))
+
 exported : All (λ i. i < 1) (0 ∷ [])
 exported = All-from_recursion (λ i. i < 1) (0 ∷ []) (omega arith, tt)
 
@@ -74,18 +96,22 @@ differ i j false e d h g n = absurd (n (same_number i j (one_value i e h) (one_v
 
 pub accepted : OnePageIsAccepted
 accepted = record {
-  formed = record { texts = refl; differ = names_differ; plain = all_plain_by_test one_page.names refl; plain_modules = all_plain_by_test one_page.modules refl; located = located; symbols = distinct; exported = exported };
+  formed = record { texts = refl; differ = names_differ; plain = all_plain_by_test one_page.names refl; plain_modules = all_plain_by_test one_page.modules refl; located = located; symbols = distinct; folders = no_folders; leaves = ((page_names, term_fits), tt); exported = exported };
   typed = a_val (of_app (of_basic refl) page_kinded)
-      (of_call of_basis (to_con page_kinded (to_term (of_element (of_holding false refl tt same no_attribute (no_node no_types_kinded))) to_nothing))) no_decls;
+      (of_call of_basis (to_con page_kinded (to_term (of_element (of_holding false refl tt same no_types_kinded no_attribute no_node tt)) to_nothing))) no_decls;
   entries = differ;
 }
+
+is_page : Alike (transaction_of page_type) (transaction_of page_type)
+unfolding comparison_units
+is_page = record { form = transaction_of page_type; forms = refl }
 
 -- the routes: one entry, by GET
 abbrev main_entry : Ent
 main_entry = record { name = codes "Main" ∷ codes "main" ∷ []; arguments = no_shapes; form = None }
 
 main_is_entry : IsEntry one_page 0 false main_entry
-main_is_entry = by_export refl (0, omega arith, refl) (no_argument same)
+main_is_entry = by_export refl (0, omega arith, refl) (no_argument is_page)
 
 -- the constructors of bool, option and list
 abbrev bool_constructors : List Cd
@@ -123,14 +149,16 @@ cases_of_bool : CasesShaped texts known 0 (bool_constructors) bool_cases
 cases_of_bool = a_case refl holds_nothing (a_case refl holds_nothing no_case)
 
 cases_of_option : CasesShaped texts known 1 (option_constructors) option_cases
-cases_of_option = a_case refl holds_nothing (a_case refl (holds_one of_parameter) no_case)
+unfolding comparison_units
+cases_of_option = a_case refl holds_nothing (a_case refl (holds_one (of_parameter refl (omega arith))) no_case)
 
 list_is_known : ◌≡◌ {A = ℕ} 5 3 → ⊥
 list_is_known e = omega (arith, e)
 
 held_by_cons : Shaped texts known 1 cons_type cons_shape
+unfolding comparison_units
 held_by_cons =
-    of_fields refl refl (field_shaped refl of_parameter (field_shaped refl (of_datatype refl refl list_is_known refl (one_shaped of_parameter none_shaped)) no_field_shaped))
+    of_fields refl refl (field_shaped refl (of_parameter refl (omega arith)) (field_shaped refl (of_datatype refl refl list_is_known refl (one_shaped (of_parameter refl (omega arith)) none_shaped)) no_field_shaped))
 
 cases_of_list : CasesShaped texts known 1 (list_constructors) list_cases
 cases_of_list = a_case refl holds_nothing (a_case refl (holds_one held_by_cons) no_case)
@@ -162,4 +190,4 @@ short_page = record {
 }
 
 pub main_answered : OnePageIsAnswered
-main_answered read = by_get are_routes is_routed refl refl refl refl (no_more same) (with_page short_page)
+main_answered = by_get are_routes is_routed refl refl refl refl (no_more is_page) (with_page short_page)

@@ -1,6 +1,6 @@
 -- The routes of an accepted program have names by which calls are told apart.
-use Rattle.std.proofs.Common.{◌≡◌, ◌≢◌, ℕ, zero, suc, ◌+◌, ◌<◌, ◌≤◌, Bool, true, false, ◌==◌, List, [], ◌∷◌, ◌++◌, map, length, get_or, Option, Some, None, option_map, slice_get, ◌⊎◌, inl, inr, refl, ap, sym, subst, ◌∙◌, arith}
-use Rattle.std.specs.List.{All, AllByRecursion, Contains}
+use Rattle.std.proofs.Common.{◌≡◌, ℕ, zero, suc, ◌<◌, ◌≤◌, Bool, true, false, ◌==◌, List, [], ◌∷◌, map, length, get_or, Option, Some, None, option_map, slice_get, ◌⊎◌, inl, inr, refl, ap, sym, subst, ◌∙◌, arith}
+use Rattle.std.specs.List.{AllByRecursion, Contains}
 use Rattle.std.proofs.lemmas.Bool.Decides.{Decides-eqb}
 use Rattle.std.proofs.lemmas.Option.{slice_get-map, slice_get-get_or, get_or_from_slice_get, slice_get_within}
 use Rattle.con_terms.specs.Trees.{Cn}
@@ -12,9 +12,10 @@ use Rattle.link_router.specs.RouteLaws.{IsPlain, AreNamed}
 use Rattle.link_router.proofs.Sent.{listed_in}
 use Rattle.link_router.proofs.OneCall.{one_call}
 use Rattle.core_terms.specs.Trees.{Cd, Dt, De, Pg}
+use Rattle.core_terms.specs.Asks.{Asks}
 use Rattle.core_terms.specs.Declarations.{Value, values, datatypes, Distinct, DeclsTyped, no_decls, a_val, some_vals, a_con, a_datatype}
-use Rattle.core_terms.specs.Entries.{IsEntry, by_export, by_link, by_action, EntriesFrom, no_values, neither, get_alone, post_alone, get_and_post, entries_of, RoutesOf, DatatypesShaped, no_datatype, carried, not_carried, CasesShaped, no_case, a_case, all_datatypes, two_texts, value_name}
-use Rattle.core_terms.specs.Accepts.{Accepts, EntriesDiffer, TextsDiffer}
+use Rattle.core_terms.specs.Entries.{IsEntry, by_export, by_link, by_action, EntriesFrom, no_values, neither, get_alone, post_alone, get_and_post, RoutesOf, DatatypesShaped, no_datatype, carried, not_carried, CasesShaped, no_case, a_case, all_datatypes, two_texts, value_name}
+use Rattle.core_terms.specs.Accepts.{Accepts, EntriesDiffer}
 use Rattle.core_terms.proofs.Differing.{distinct_by_test}
 
 some_is : {X : Type 0} {x y : X} → Some x ≡ Some y → x ≡ y
@@ -163,7 +164,7 @@ distinct_places (y ∷ ys) d (suc m) (suc n) x e g = ap suc (distinct_places ys 
 abbrev names_in : Dt → List ℕ
 names_in d = map (λ (c : Cd). c.name) d.constructors
 
-decl_distinct : {p : Pg} {tops : List Cn} {ds : List Dt} {decls : List De} → DeclsTyped p tops ds decls → (k : ℕ) (d : Dt) → slice_get (datatypes decls) k ≡ Some d → Distinct (names_in d)
+decl_distinct : {A : Asks} {p : Pg} {tops : List Cn} {ds : List Dt} {decls : List De} → DeclsTyped A p tops ds decls → (k : ℕ) (d : Dt) → slice_get (datatypes decls) k ≡ Some d → Distinct (names_in d)
 decl_distinct no_decls k d e = no_place e
 decl_distinct (a_val h t r) k d e = decl_distinct r k d e
 decl_distinct (some_vals h r) k d e = decl_distinct r k d e

@@ -3,7 +3,7 @@ use Rattle.std.proofs.Common.{◌≡◌, Bool, true, false, refl, ap, ◌∙◌}
 use Rattle.con_terms.specs.Trees.{Kd, Cn, unit_con}
 use Rattle.con_terms.specs.declared.place.Place.{Place}
 use Rattle.core_terms.specs.Trees.{Pt, pattern, Pf, any, binds, is_number, is_text, is_bare, is_holding, has_fields, annotated, Pfs, no_pat_fields, pat_field, Ex, node, Fo, bound, top, foreign, basis, fold_over, number, text, built, fn, fn_con, fn_guard, call, let_in, case_of, ascribed, fields_of, select, concat, without, without_row, folder, element, Its, no_items, with_term, with_con, with_guard, Nms, no_named, named, Los, no_locals, local_val, local_rec, Brs, no_branches, branch, Fds, no_fields, field, El, tagged, Ats, no_attributes, attribute, Xs, no_nodes, a_node}
-use Rattle.core_terms.specs.Strip.{if_written, kind_if_written, strip_pattern, strip_pattern_form, strip_pattern_fields, keep_con, keep_guard, strip, strip_form, strip_items, strip_named, strip_locals, strip_branches, strip_fields, strip_element, strip_attributes, strip_nodes}
+use Rattle.core_terms.specs.Strip.{if_written, strip_pattern, strip_pattern_form, strip_pattern_fields, keep_con, keep_guard, was_added, call_left, strip, strip_form, strip_items, strip_named, strip_locals, strip_branches, strip_fields, strip_element, strip_attributes, strip_nodes}
 
 two : {A B C : Type 0} (f : A → B → C) {a a' : A} {b b' : B} → a ≡ a' → b ≡ b' → f a b ≡ f a' b'
 two f {a} {a'} {b} {b'} e g = ap (λ x. f x b) e ∙ ap (f a') g
@@ -11,10 +11,6 @@ two f {a} {a'} {b} {b'} e g = ap (λ x. f x b) e ∙ ap (f a') g
 type_twice : (w : Bool) (t : Cn) → if_written w (if_written w t) ≡ if_written w t
 type_twice true t = refl
 type_twice false t = refl
-
-kind_twice : (w : Bool) (k : Kd) → kind_if_written w (kind_if_written w k) ≡ kind_if_written w k
-kind_twice true k = refl
-kind_twice false k = refl
 
 mutual
   pattern_twice : (q : Pt) → strip_pattern (strip_pattern q) ≡ strip_pattern q
@@ -43,40 +39,97 @@ guard_kept : (p : Place) (a : Bool) (is : Its) → strip_items is ≡ is → str
 guard_kept p true is e = e
 guard_kept p false is e = ap (with_guard p false) e
 
+-- a term, as one that was written or inserted
+abbrev marked : Bool → Ex → Ex
+marked a (node p b f) = node p a f
+
+left_marked : (p : Place) (a b : Bool) (f : Ex) (is : Its) → call_left p a f is ≡ marked a (call_left p b f is)
+left_marked p a b (node q c f) no_items = refl
+left_marked p a b (node q c f) (with_term e is) = refl
+left_marked p a b (node q c f) (with_con r i d is) = refl
+left_marked p a b (node q c f) (with_guard r i is) = refl
+
+form_marked : (p : Place) (a b : Bool) (f : Fo) → strip_form p a f ≡ marked a (strip_form p b f)
+form_marked p a b (call f is) = left_marked p a b (strip f) (strip_items is)
+form_marked p a b (bound i) = refl
+form_marked p a b (top i) = refl
+form_marked p a b (foreign i) = refl
+form_marked p a b (basis d) = refl
+form_marked p a b (fold_over k) = refl
+form_marked p a b (number z) = refl
+form_marked p a b (text t) = refl
+form_marked p a b (built s j) = refl
+form_marked p a b (fn q w t e) = refl
+form_marked p a b (fn_con x i w k e) = refl
+form_marked p a b (fn_guard c d e) = refl
+form_marked p a b (let_in ls e) = refl
+form_marked p a b (case_of e r q d bs) = refl
+form_marked p a b (ascribed e t) = refl
+form_marked p a b (fields_of fs) = refl
+form_marked p a b (select e c) = refl
+form_marked p a b (concat e d) = refl
+form_marked p a b (without e c) = refl
+form_marked p a b (without_row e c) = refl
+form_marked p a b (folder k ps) = refl
+form_marked p a b (element m) = refl
+
+-- whether it was inserted stays
+added_mark : (a : Bool) (e : Ex) → was_added (marked a e) ≡ a
+added_mark a (node p b f) = refl
+
+still_added : (p : Place) (a : Bool) (f : Fo) → was_added (strip_form p a f) ≡ a
+still_added p a f = ap was_added (form_marked p a a f) ∙ added_mark a (strip_form p a f)
+
+-- a head that has nothing inserted, in its call's place
+head_kept : (a : Bool) (f : Ex) → strip f ≡ f → strip (marked a f) ≡ marked a f
+head_kept a (node q b f) e = form_marked q a b f ∙ ap (marked a) e
+
+-- a call of which items are left stays
+call_kept : (p : Place) (a : Bool) (f : Ex) (is : Its) → strip f ≡ f → strip_items is ≡ is → strip (call_left p a f is) ≡ call_left p a f is
+call_kept p a (node q b f) no_items e i = head_kept a (node q b f) e
+call_kept p a (node q b f) (with_term d is) e i = two (call_left p a) e i
+call_kept p a (node q b f) (with_con r c d is) e i = two (call_left p a) e i
+call_kept p a (node q b f) (with_guard r c is) e i = two (call_left p a) e i
+
+-- a written item stays
+written_kept : (e : Ex) (is : Its) → was_added e ≡ false → strip e ≡ e → strip_items is ≡ is → strip_items (with_term e is) ≡ with_term e is
+written_kept (node p true f) is h e i = cc
+written_kept (node p false f) is h e i = two with_term e i
+
 mutual
   pub strip_twice : (e : Ex) → strip (strip e) ≡ strip e
-  strip_twice (node p a f) = ap (node p a) (form_twice f)
+  strip_twice (node p a f) = form_twice p a f
 
-  form_twice : (f : Fo) → strip_form (strip_form f) ≡ strip_form f
-  form_twice (bound i) = refl
-  form_twice (top i) = refl
-  form_twice (foreign i) = refl
-  form_twice (basis b) = refl
-  form_twice (fold_over k) = refl
-  form_twice (number z) = refl
-  form_twice (text t) = refl
-  form_twice (built s j) = refl
-  form_twice (fn q w t e) = two (λ r u. fn r w u (strip (strip e))) (pattern_twice q) (type_twice w t) ∙ ap (fn (strip_pattern q) w (if_written w t)) (strip_twice e)
-  form_twice (fn_con x i w k e) = two (fn_con x i w) (kind_twice w k) (strip_twice e)
-  form_twice (fn_guard c d e) = ap (fn_guard c d) (strip_twice e)
-  form_twice (call f is) = two call (strip_twice f) (items_twice is)
-  form_twice (let_in ls e) = two let_in (locals_twice ls) (strip_twice e)
-  form_twice (case_of e p q d bs) =
-      two (λ x r. case_of x p r (strip (strip d)) (strip_branches (strip_branches bs))) (strip_twice e) (pattern_twice q)
-      ∙ two (case_of (strip e) p (strip_pattern q)) (strip_twice d) (branches_twice bs)
-  form_twice (ascribed e t) = ap (λ x. ascribed x t) (strip_twice e)
-  form_twice (fields_of fs) = ap fields_of (fields_twice fs)
-  form_twice (select e c) = ap (λ x. select x c) (strip_twice e)
-  form_twice (concat e d) = two concat (strip_twice e) (strip_twice d)
-  form_twice (without e c) = ap (λ x. without x c) (strip_twice e)
-  form_twice (without_row e c) = ap (λ x. without_row x c) (strip_twice e)
-  form_twice (folder k ps) = refl
-  form_twice (element m) = ap element (element_twice m)
+  form_twice : (p : Place) (a : Bool) (f : Fo) → strip (strip_form p a f) ≡ strip_form p a f
+  form_twice p a (bound i) = refl
+  form_twice p a (top i) = refl
+  form_twice p a (foreign i) = refl
+  form_twice p a (basis b) = refl
+  form_twice p a (fold_over k) = refl
+  form_twice p a (number z) = refl
+  form_twice p a (text t) = refl
+  form_twice p a (built s j) = refl
+  form_twice p a (fn q w t e) = ap (node p a) (two (λ r u. fn r w u (strip (strip e))) (pattern_twice q) (type_twice w t) ∙ ap (fn (strip_pattern q) w (if_written w t)) (strip_twice e))
+  form_twice p a (fn_con x i w k e) = ap (λ d. node p a (fn_con x i w k d)) (strip_twice e)
+  form_twice p a (fn_guard c d e) = ap (node p a) (ap (fn_guard c d) (strip_twice e))
+  form_twice p a (call f is) = call_kept p a (strip f) (strip_items is) (strip_twice f) (items_twice is)
+  form_twice p a (let_in ls e) = ap (node p a) (two let_in (locals_twice ls) (strip_twice e))
+  form_twice p a (case_of e y q d bs) =
+      ap (node p a) (two (λ x r. case_of x y r (strip (strip d)) (strip_branches (strip_branches bs))) (strip_twice e) (pattern_twice q)
+      ∙ two (case_of (strip e) y (strip_pattern q)) (strip_twice d) (branches_twice bs))
+  form_twice p a (ascribed e t) = ap (node p a) (ap (λ x. ascribed x t) (strip_twice e))
+  form_twice p a (fields_of fs) = ap (node p a) (ap fields_of (fields_twice fs))
+  form_twice p a (select e c) = ap (node p a) (ap (λ x. select x c) (strip_twice e))
+  form_twice p a (concat e d) = ap (node p a) (two concat (strip_twice e) (strip_twice d))
+  form_twice p a (without e c) = ap (node p a) (ap (λ x. without x c) (strip_twice e))
+  form_twice p a (without_row e c) = ap (node p a) (ap (λ x. without_row x c) (strip_twice e))
+  form_twice p a (folder k ps) = refl
+  form_twice p a (element m) = ap (node p a) (ap element (element_twice m))
 
   items_twice : (is : Its) → strip_items (strip_items is) ≡ strip_items is
   items_twice no_items = refl
   items_twice (with_term (node p true f) is) = items_twice is
-  items_twice (with_term (node p false f) is) = two (λ g js. with_term (node p false g) js) (form_twice f) (items_twice is)
+  items_twice (with_term (node p false f) is) = written_kept (strip_form p false f) (strip_items is) (still_added p false f) (form_twice p false f) (items_twice is)
   items_twice (with_con p a c is) = con_kept p a c (strip_items is) (items_twice is)
   items_twice (with_guard p a is) = guard_kept p a (strip_items is) (items_twice is)
 

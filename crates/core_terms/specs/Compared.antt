@@ -1,70 +1,65 @@
 -- How two constructors, two rows, and a row and its fields compare by normal forms. One comparison has 100,000 units for both sides.
-use Rattle.std.specs.Prelude.{◌≡◌, ◌≢◌, ℕ, List, [], ◌∷◌, Some, None}
-use Rattle.std.specs.List.{All}
-use Rattle.con_terms.specs.Trees.{Cn, types, no_pairs, pair, row}
-use Rattle.con_terms.specs.Apart.{Guards, Separated, pieces}
-use Rattle.row_normal.specs.NormalForm.{nf}
-use Rattle.row_normal.specs.Ordered.{ordered_pieces}
-use Rattle.core_terms.specs.Scopes.{comparison_units}
-
--- the two normal forms, within the units
-pub record BothNormal (a b m n : Cn) : Type 0 where
-  pub left : ℕ
-  pub left' : ℕ
-  pub first : nf comparison_units a ≡ Some (m, left)
-  pub second : nf left b ≡ Some (n, left')
+-- The Ur/Web Manual, "Definitional Equality" and "Record Disjointness".
+use Rattle.std.specs.Prelude.{◌≡◌, ◌≢◌, ◌&&◌, List, [], ◌∷◌, Option, Some, None, option_map, Ok, Err, if◌then◌else◌}
+use Rattle.con_terms.specs.Trees.{Cn, types, record_of, no_pairs, pair, row}
+use Rattle.con_terms.specs.Same.{kd_eq}
+use Rattle.con_terms.specs.Apart.{Guards}
+use Rattle.row_normal.specs.SameTree.{cn_eq}
+use Rattle.kind_rules.specs.Flaws.{pieces_touch, too_large}
+use Rattle.kind_rules.specs.Compared.{comparison_units, normal_forms, not_apart}
 
 -- the normal forms are one
-abbrev pub Alike : Cn → Cn → Type 0
-Alike a b = (n : Cn) × BothNormal a b n n
+pub record Alike (a b : Cn) : Type 0 where
+  pub form : Cn
+  pub forms : normal_forms comparison_units a b ≡ Ok (form, form)
 
 -- the normal forms are these, and differ
 pub record Differ (a b m n : Cn) : Type 0 where
-  pub normal : BothNormal a b m n
+  pub normal : normal_forms comparison_units a b ≡ Ok (m, n)
   pub differ : m ≢ n
 
 -- one of them is too large
-pub data Large : Cn → Cn → Type 0 where
-  large_first : {a b : Cn} → nf comparison_units a ≡ None → Large a b
-  large_second : {a b m : Cn} {left : ℕ} → nf comparison_units a ≡ Some (m, left) → nf left b ≡ None → Large a b
+abbrev pub Large : Cn → Cn → Type 0
+Large a b = normal_forms comparison_units a b ≡ Err too_large
+
+-- the normal forms are the record of a row, and this
+abbrev pub RecordAnd : Cn → Cn → Cn → Cn → Type 0
+RecordAnd t c r n = normal_forms comparison_units t c ≡ Ok (record_of r, n)
 
 -- all pieces of the two normal forms are separated
 pub record Disjoint (gs : Guards) (a b : Cn) : Type 0 where
-  pub m : Cn
-  pub n : Cn
-  pub normal : BothNormal a b m n
-  pub separated : All (λ p. All (Separated gs p) (pieces n)) (pieces m)
+  pub none_touch : not_apart gs a b ≡ None
 
--- q is the first of the pieces that p isn't separated from
-pub data FirstFor : Guards → Cn → List Cn → Cn → Type 0 where
-  this : {gs : Guards} {p q : Cn} {qs : List Cn} → (Separated gs p q → ⊥) → FirstFor gs p (q ∷ qs) q
-  a_later : {gs : Guards} {p q r : Cn} {qs : List Cn} → Separated gs p r → FirstFor gs p qs q → FirstFor gs p (r ∷ qs) q
+-- p and q are the first of these pieces that aren't
+abbrev pub Touch : Guards → Cn → Cn → Cn → Cn → Type 0
+Touch gs a b p q = not_apart gs a b ≡ Some (pieces_touch p q)
 
--- the first two pieces that aren't separated, by the first list and then by the second
-pub data FirstTouch : Guards → List Cn → List Cn → Cn → Cn → Type 0 where
-  in_first : {gs : Guards} {p q : Cn} {ps qs : List Cn} → FirstFor gs p qs q → FirstTouch gs (p ∷ ps) qs p q
-  in_rest : {gs : Guards} {p q r : Cn} {ps qs : List Cn} → All (Separated gs r) qs → FirstTouch gs ps qs p q → FirstTouch gs (r ∷ ps) qs p q
+-- the value of a piece that is a field of this name
+abbrev pub value_of : Cn → Cn → Option Cn
+value_of n (row k (pair m v no_pairs)) = if kd_eq k types && cn_eq m n then Some v else None
+value_of n _ = None
 
-pub record Touch (gs : Guards) (a b p q : Cn) : Type 0 where
-  pub m : Cn
-  pub n : Cn
-  pub normal : BothNormal a b m n
-  pub touch : FirstTouch gs (pieces m) (pieces n) p q
+-- what is found, with one more piece before the others
+abbrev pub behind : Cn → Option (Cn × List Cn) → Option (Cn × List Cn)
+behind p None = None
+behind p (Some r) = Some (r.0, p ∷ r.1)
 
--- one element of a list, and the others in their order
-pub data Picks : List Cn → Cn → List Cn → Type 0 where
-  picks_first : {p : Cn} {ps : List Cn} → Picks (p ∷ ps) p ps
-  picks_later : {p q : Cn} {ps qs : List Cn} → Picks ps q qs → Picks (p ∷ ps) q (p ∷ qs)
+-- the field that a piece is, with the pieces behind it, or what is found behind
+abbrev pub field_or : Option Cn → Cn → List Cn → Option (Cn × List Cn) → Option (Cn × List Cn)
+field_or None p ps more = behind p more
+field_or (Some v) p ps more = Some (v, ps)
 
--- several elements, one after another, and the others
-pub data PicksAll : List Cn → List Cn → List Cn → Type 0 where
-  picks_none : {ps : List Cn} → PicksAll ps [] ps
-  picks_one : {ps qs rs cs : List Cn} {c : Cn} → Picks ps c qs → PicksAll qs cs rs → PicksAll ps (c ∷ cs) rs
+-- the value of the first field of a name among pieces, and the other pieces in their order
+abbrev pub field_of : Cn → List Cn → Option (Cn × List Cn)
+field_of n [] = None
+field_of n (p ∷ ps) = field_or (value_of n p) p ps (field_of n ps)
 
--- the field of a name in a row in normal form, and the other pieces
-pub record HasField (r n v : Cn) (rest : List Cn) : Type 0 where
-  pub picked : Picks (ordered_pieces r) (row types (pair n v no_pairs)) rest
+-- pieces without the first that is this one
+abbrev pub without_piece : Cn → List Cn → Option (List Cn)
+without_piece c [] = None
+without_piece c (p ∷ ps) = if cn_eq p c then Some ps else option_map (λ qs. p ∷ qs) (without_piece c ps)
 
--- no piece is a field of this name
-abbrev pub LacksField : Cn → Cn → Type 0
-LacksField r n = (v : Cn) (rest : List Cn) → HasField r n v rest → ⊥
+-- without several, one after another
+abbrev pub without_pieces : List Cn → List Cn → Option (List Cn)
+without_pieces [] ps = Some ps
+without_pieces (c ∷ cs) ps = elim (without_piece c ps) [ None ↦ None | Some qs ↦ without_pieces cs qs ]

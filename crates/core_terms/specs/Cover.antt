@@ -1,10 +1,11 @@
 -- Which shapes a type's values have, and whether patterns take them all.
--- The Ur/Web Manual, "Pattern Typing", which asks that patterns be exhaustive.
+-- The Ur/Web Manual asks for it apart from its rules of "Pattern Typing".
 use Rattle.std.specs.Prelude.{◌≡◌, ℕ, zero, suc, max, ℤ, Bool, true, false, ◌&&◌, ◌==◌, bytes_eq, List, [], ◌∷◌, Option, Some, None, slice_get, IsUtf8, FitsSigned, if◌then◌else◌}
 use Rattle.std.specs.Int.{w64}
 use Rattle.std.specs.List.{Contains}
 use Rattle.std.specs.Ordering.{int_eq}
-use Rattle.con_terms.specs.Trees.{Cn, name}
+use Rattle.con_terms.specs.Trees.{Cn}
+use Rattle.row_normal.specs.SameTree.{cn_eq}
 use Rattle.core_terms.specs.Trees.{Pt, pattern, Pf, any, binds, is_number, is_text, is_bare, is_holding, has_fields, annotated, Pfs, no_pat_fields, pat_field, Cd, Dt}
 use Rattle.core_terms.specs.Datatypes.{held_at}
 use Rattle.core_terms.specs.Scopes.{normal_of}
@@ -21,9 +22,10 @@ mutual
     holding_shape : ℕ → ℕ → Shp → Shp
     record_shape : Shf → Shp
 
+  -- fields by their names in normal form
   pub data Shf : Type 0 where
     no_shape_fields : Shf
-    shape_field : ℕ → Shp → Shf → Shf
+    shape_field : Cn → Shp → Shf → Shf
 
 -- how deep constructors, records and literals stand in a pattern
 abbrev mutual
@@ -57,24 +59,18 @@ mutual
     of_text : {ds : List Dt} {d : ℕ} {t n : Cn} {w : List ℕ} → normal_of t ≡ Some n → seen ds n ≡ a_text → IsUtf8 w → ShapeOf ds (suc d) t (text_shape w)
     of_bare : {ds : List Dt} {d j : ℕ} {t n : Cn} {x : Dt} {args : List Cn} {c : Cd} → normal_of t ≡ Some n → seen ds n ≡ a_datatype x args → slice_get x.constructors j ≡ Some c → c.holds ≡ None → ShapeOf ds (suc d) t (bare_shape x.symbol j)
     of_holding : {ds : List Dt} {d j : ℕ} {t n held : Cn} {x : Dt} {args : List Cn} {c : Cd} {s : Shp} → normal_of t ≡ Some n → seen ds n ≡ a_datatype x args → slice_get x.constructors j ≡ Some c → c.holds ≡ Some held → ShapeOf ds d (held_at args held) s → ShapeOf ds (suc d) t (holding_shape x.symbol j s)
-    of_record : {ds : List Dt} {d : ℕ} {t n : Cn} {fs : List (ℕ × Cn)} {ss : Shf} → normal_of t ≡ Some n → seen ds n ≡ a_record fs → ShapesOf ds d fs ss → ShapeOf ds (suc d) t (record_shape ss)
+    of_record : {ds : List Dt} {d : ℕ} {t n : Cn} {fs : List (Cn × Cn)} {ss : Shf} → normal_of t ≡ Some n → seen ds n ≡ a_record fs → ShapesOf ds d fs ss → ShapeOf ds (suc d) t (record_shape ss)
 
-  pub data ShapesOf : List Dt → ℕ → List (ℕ × Cn) → Shf → Type 0 where
+  pub data ShapesOf : List Dt → ℕ → List (Cn × Cn) → Shf → Type 0 where
     of_no_fields : {ds : List Dt} {d : ℕ} → ShapesOf ds d [] no_shape_fields
-    of_field : {ds : List Dt} {d x : ℕ} {t : Cn} {fs : List (ℕ × Cn)} {s : Shp} {ss : Shf} → ShapeOf ds d t s → ShapesOf ds d fs ss → ShapesOf ds d ((x, t) ∷ fs) (shape_field x s ss)
+    of_field : {ds : List Dt} {d : ℕ} {x t : Cn} {fs : List (Cn × Cn)} {s : Shp} {ss : Shf} → ShapeOf ds d t s → ShapesOf ds d fs ss → ShapesOf ds d ((x, t) ∷ fs) (shape_field x s ss)
 
--- the shape of a field
-abbrev pub shape_at : Shf → ℕ → Shp
+-- the shape of the field with a name; a leaf where there is none
+abbrev pub shape_at : Shf → Cn → Shp
 shape_at no_shape_fields x = leaf
-shape_at (shape_field y s ss) x = if y == x then s else shape_at ss x
+shape_at (shape_field y s ss) x = if cn_eq y x then s else shape_at ss x
 
--- the literal name that a constructor is
-abbrev pub literal_name : Cn → Option ℕ
-literal_name (name s) = Some s
-literal_name _ = None
-
--- the shape of a field with a literal name; a leaf for another
-abbrev pub shape_named : Shf → Option ℕ → Shp
+abbrev pub shape_named : Shf → Option Cn → Shp
 shape_named ss None = leaf
 shape_named ss (Some x) = shape_at ss x
 
@@ -100,7 +96,7 @@ abbrev mutual
 
   pub fields_take : Pfs → Shf → Bool
   fields_take no_pat_fields ss = true
-  fields_take (pat_field p n q fs) ss = takes q (shape_named ss (literal_name n)) && fields_take fs ss
+  fields_take (pat_field p n q fs) ss = takes q (shape_named ss (normal_of n)) && fields_take fs ss
 
 -- some pattern takes the shape
 abbrev pub one_takes : List Pt → Shp → Bool
@@ -116,9 +112,13 @@ pub record Misses (ds : List Dt) (ps : List Pt) (t : Cn) (s : Shp) : Type 0 wher
 pub data TooLargeIn : List Dt → ℕ → Cn → Type 0 where
   itself : {ds : List Dt} {d : ℕ} {t : Cn} → normal_of t ≡ None → TooLargeIn ds (suc d) t
   in_held : {ds : List Dt} {d : ℕ} (j : ℕ) {t n held : Cn} {x : Dt} {args : List Cn} {c : Cd} → normal_of t ≡ Some n → seen ds n ≡ a_datatype x args → slice_get x.constructors j ≡ Some c → c.holds ≡ Some held → TooLargeIn ds d (held_at args held) → TooLargeIn ds (suc d) t
-  in_field : {ds : List Dt} {d : ℕ} (x : ℕ) {t n u : Cn} {fs : List (ℕ × Cn)} → normal_of t ≡ Some n → seen ds n ≡ a_record fs → Contains fs (x, u) → TooLargeIn ds d u → TooLargeIn ds (suc d) t
+  in_field : {ds : List Dt} {d : ℕ} (x : Cn) {t n u : Cn} {fs : List (Cn × Cn)} → normal_of t ≡ Some n → seen ds n ≡ a_record fs → Contains fs (x, u) → TooLargeIn ds d u → TooLargeIn ds (suc d) t
+
+-- how deep types are looked at: where the deepest constructor, record or literal stands, and at least at the type itself
+abbrev pub levels : List Pt → ℕ
+levels ps = max 1 (patterns_depth ps)
 
 -- no part's type is too large, and each shape is taken
 pub record Covers (ds : List Dt) (ps : List Pt) (t : Cn) : Type 0 where
-  pub small : TooLargeIn ds (patterns_depth ps) t → ⊥
+  pub small : TooLargeIn ds (levels ps) t → ⊥
   pub taken : (s : Shp) → ShapeOf ds (patterns_depth ps) t s → one_takes ps s ≡ true

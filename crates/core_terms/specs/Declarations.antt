@@ -8,6 +8,7 @@ use Rattle.con_terms.specs.declared.place.Place.{Place}
 use Rattle.core_terms.specs.Trees.{Ex, Nms, no_named, named, De, val, vals, con_is, datatype, Cd, Dt, Pg}
 use Rattle.core_terms.specs.Datatypes.{basis_datatypes}
 use Rattle.core_terms.specs.Scopes.{Sc, top_scope, under_con}
+use Rattle.core_terms.specs.Asks.{Asks}
 use Rattle.core_terms.specs.Typed.{Typed, NamedTyped}
 
 -- a top-level value: where it stands, its name, its type and its term
@@ -60,13 +61,13 @@ Distinct [] = Unit {0}
 Distinct (x ∷ xs) = All (λ y. x ≢ y) xs × Distinct xs
 
 -- each declaration is typed where those before it are in scope: values by their written types, names that are declared together with each other, a datatype with itself
-pub data DeclsTyped : Pg → List Cn → List Dt → List De → Type 0 where
-  no_decls : {p : Pg} {tops : List Cn} {ds : List Dt} → DeclsTyped p tops ds []
+pub data DeclsTyped (A : Asks) : Pg → List Cn → List Dt → List De → Type 0 where
+  no_decls : {p : Pg} {tops : List Cn} {ds : List Dt} → DeclsTyped A p tops ds []
   a_val : {p : Pg} {tops : List Cn} {ds : List Dt} {at : Place} {x : ℕ} {w : Bool} {t : Cn} {e : Ex} {rest : List De}
-      → Kinded (scope_with p tops ds).kinds t types → Typed (scope_with p tops ds) e t → DeclsTyped p (tops ++ t ∷ []) ds rest → DeclsTyped p tops ds (val at x w t e ∷ rest)
+      → Kinded (scope_with p tops ds).kinds t types → Typed A (scope_with p tops ds) e t → DeclsTyped A p (tops ++ t ∷ []) ds rest → DeclsTyped A p tops ds (val at x w t e ∷ rest)
   some_vals : {p : Pg} {tops : List Cn} {ds : List Dt} {ns : Nms} {rest : List De}
-      → NamedTyped (scope_with p tops ds) (scope_with p (tops ++ value_types (named_values ns)) ds) ns → DeclsTyped p (tops ++ value_types (named_values ns)) ds rest → DeclsTyped p tops ds (vals ns ∷ rest)
+      → NamedTyped A (scope_with p tops ds) (scope_with p (tops ++ value_types (named_values ns)) ds) ns → DeclsTyped A p (tops ++ value_types (named_values ns)) ds rest → DeclsTyped A p tops ds (vals ns ∷ rest)
   a_con : {p : Pg} {tops : List Cn} {ds : List Dt} {at : Place} {x : ℕ} {w : Bool} {k : Kd} {c : Cn} {rest : List De}
-      → Kinded (scope_with p tops ds).kinds c k → DeclsTyped p tops ds rest → DeclsTyped p tops ds (con_is at x w k c ∷ rest)
+      → Kinded (scope_with p tops ds).kinds c k → DeclsTyped A p tops ds rest → DeclsTyped A p tops ds (con_is at x w k c ∷ rest)
   a_datatype : {p : Pg} {tops : List Cn} {ds : List Dt} {d : Dt} {rest : List De}
-      → HoldsTypes (scope_with p tops (ds ++ d ∷ [])) d → Distinct (map (λ (c : Cd). c.name) d.constructors) → DeclsTyped p tops (ds ++ d ∷ []) rest → DeclsTyped p tops ds (datatype d ∷ rest)
+      → HoldsTypes (scope_with p tops (ds ++ d ∷ [])) d → Distinct (map (λ (c : Cd). c.name) d.constructors) → DeclsTyped A p tops (ds ++ d ∷ []) rest → DeclsTyped A p tops ds (datatype d ∷ rest)

@@ -1,10 +1,9 @@
 -- The entries of a program: which values a request can call, with the shapes of their arguments.
-use Rattle.std.specs.Prelude.{◌≡◌, ◌≢◌, ℕ, suc, ◌-◌, Bool, true, false, List, [], ◌∷◌, ◌++◌, map, Option, Some, None, slice_get, if◌then◌else◌}
+use Rattle.std.specs.Prelude.{◌≡◌, ◌≢◌, ℕ, suc, ◌-◌, ◌<◌, Bool, true, false, List, [], ◌∷◌, ◌++◌, map, Option, Some, None, slice_get, if◌then◌else◌}
 use Rattle.std.specs.List.{Contains, flat_map}
 use Rattle.std.specs.Ordering.{is_lt, nat_cmp}
 use Rattle.std.specs.Cmp.Lexicographic.{slice_cmp}
-use Rattle.con_terms.specs.Trees.{Cn, var, arrow}
-use Rattle.con_terms.specs.Equal.{Equal}
+use Rattle.con_terms.specs.Trees.{Cn, var, arrow, record_of}
 use Rattle.table_rows.specs.Shapes.{Sh, an_int, a_text, a_unit, a_truth, a_record, a_data, parameter, Shs, no_shapes, shape, Pts, no_parts, part, Cases}
 use Rattle.link_router.specs.Calls.{Ent, Rts}
 use Rattle.core_terms.specs.Names.{bool_name}
@@ -12,9 +11,10 @@ use Rattle.core_terms.specs.Trees.{Cd, Dt, Pg}
 use Rattle.core_terms.specs.Types.{transaction_of, page_type}
 use Rattle.core_terms.specs.Datatypes.{basis_datatypes}
 use Rattle.core_terms.specs.Scopes.{normal_of}
-use Rattle.core_terms.specs.Seen.{a_number, a_datatype, seen}
+use Rattle.core_terms.specs.Seen.{a_number, a_datatype, literal_fields, seen}
 use Rattle.core_terms.specs.Seen as seen
-use Rattle.core_terms.specs.Carried.{Carried}
+use Rattle.core_terms.specs.Compared.{Alike}
+use Rattle.core_terms.specs.Carried.{Carried, Filled}
 use Rattle.core_terms.specs.Declarations.{Value, values, datatypes}
 use Rattle.core_terms.specs.Targets.{Target, targets}
 
@@ -34,9 +34,9 @@ mutual
     of_text : {names : List (List ℕ)} {ds : List Dt} {k : ℕ} {t n : Cn} → normal_of t ≡ Some n → seen ds n ≡ seen.a_text → Shaped names ds k t a_text
     of_truth : {names : List (List ℕ)} {ds : List Dt} {k : ℕ} {t n : Cn} {d : Dt} {args : List Cn} → normal_of t ≡ Some n → seen ds n ≡ a_datatype d args → d.symbol ≡ bool_name → Shaped names ds k t a_truth
     of_datatype : {names : List (List ℕ)} {ds : List Dt} {k i : ℕ} {t n : Cn} {d : Dt} {args : List Cn} {ss : Shs} → normal_of t ≡ Some n → seen ds n ≡ a_datatype d args → d.symbol ≢ bool_name → slice_get ds i ≡ Some d → AllShaped names ds k args ss → Shaped names ds k t (a_data i ss)
-    of_nothing : {names : List (List ℕ)} {ds : List Dt} {k : ℕ} {t n : Cn} → normal_of t ≡ Some n → seen ds n ≡ seen.a_record [] → Shaped names ds k t a_unit
-    of_fields : {names : List (List ℕ)} {ds : List Dt} {k : ℕ} {t n : Cn} {f : ℕ × Cn} {fs : List (ℕ × Cn)} {ps : List (List ℕ × Sh)} → normal_of t ≡ Some n → seen ds n ≡ seen.a_record (f ∷ fs) → FieldsShaped names ds k (f ∷ fs) ps → Shaped names ds k t (a_record (parts_of ps))
-    of_parameter : {names : List (List ℕ)} {ds : List Dt} {k i : ℕ} → Shaped names ds k (var i) (parameter (k - suc i))
+    of_nothing : {names : List (List ℕ)} {ds : List Dt} {k : ℕ} {t r : Cn} → normal_of t ≡ Some (record_of r) → literal_fields r ≡ [] → Shaped names ds k t a_unit
+    of_fields : {names : List (List ℕ)} {ds : List Dt} {k : ℕ} {t r : Cn} {f : ℕ × Cn} {fs : List (ℕ × Cn)} {ps : List (List ℕ × Sh)} → normal_of t ≡ Some (record_of r) → literal_fields r ≡ f ∷ fs → FieldsShaped names ds k (f ∷ fs) ps → Shaped names ds k t (a_record (parts_of ps))
+    of_parameter : {names : List (List ℕ)} {ds : List Dt} {k i : ℕ} {t : Cn} → normal_of t ≡ Some (var i) → i < k → Shaped names ds k t (parameter (k - suc i))
 
   pub data AllShaped : List (List ℕ) → List Dt → ℕ → List Cn → Shs → Type 0 where
     none_shaped : {names : List (List ℕ)} {ds : List Dt} {k : ℕ} → AllShaped names ds k [] no_shapes
@@ -74,13 +74,13 @@ abbrev pub value_name : Pg → Value → List (List ℕ)
 value_name p v = two_texts (slice_get p.modules v.place.file) (slice_get p.names v.name)
 
 -- the arguments of a function that gives an action, and an action's form
-pub data PageOf : Pg → Cn → Shs → Type 0 where
-  no_argument : {p : Pg} {t : Cn} → Equal t (transaction_of page_type) → PageOf p t no_shapes
-  an_argument : {p : Pg} {t a b : Cn} {s : Sh} {ss : Shs} → Equal t (arrow a b) → Carried (all_datatypes p) a → Shaped p.names (all_datatypes p) 0 a s → PageOf p b ss → PageOf p t (shape s ss)
+pub data TakesToPage : Pg → Cn → Shs → Type 0 where
+  no_argument : {p : Pg} {t : Cn} → Alike t (transaction_of page_type) → TakesToPage p t no_shapes
+  an_argument : {p : Pg} {t a b : Cn} {s : Sh} {ss : Shs} → normal_of t ≡ Some (arrow a b) → Carried (all_datatypes p) a → Shaped p.names (all_datatypes p) 0 a s → TakesToPage p b ss → TakesToPage p t (shape s ss)
 
-pub data FormOf : Pg → Cn → Shs → Sh → Type 0 where
-  form_last : {p : Pg} {t a b : Cn} {f : Sh} → Equal t (arrow a b) → Shaped p.names (all_datatypes p) 0 a f → Equal b (transaction_of page_type) → FormOf p t no_shapes f
-  form_behind : {p : Pg} {t a b : Cn} {s f : Sh} {ss : Shs} → Equal t (arrow a b) → Carried (all_datatypes p) a → Shaped p.names (all_datatypes p) 0 a s → FormOf p b ss f → FormOf p t (shape s ss) f
+pub data TakesFormToPage : Pg → Cn → Shs → Sh → Type 0 where
+  form_last : {p : Pg} {t a b : Cn} {f : Sh} → normal_of t ≡ Some (arrow a b) → Filled a → Shaped p.names (all_datatypes p) 0 a f → Alike b (transaction_of page_type) → TakesFormToPage p t no_shapes f
+  form_behind : {p : Pg} {t a b : Cn} {s f : Sh} {ss : Shs} → normal_of t ≡ Some (arrow a b) → Carried (all_datatypes p) a → Shaped p.names (all_datatypes p) 0 a s → TakesFormToPage p b ss f → TakesFormToPage p t (shape s ss) f
 
 -- the links and actions of all values
 abbrev pub program_targets : Pg → List Target
@@ -88,9 +88,9 @@ program_targets p = flat_map (λ (v : Value). targets v.term) (values p.decls)
 
 -- The entry for a value and a method. By GET: an export whose arguments are carried and that gives an action for a page, and each link's target. By POST: each action's.
 pub data IsEntry : Pg → ℕ → Bool → Ent → Type 0 where
-  by_export : {p : Pg} {i : ℕ} {v : Value} {ss : Shs} → slice_get (values p.decls) i ≡ Some v → Contains p.exports i → PageOf p v.con ss → IsEntry p i false (record { name = value_name p v; arguments = ss; form = None })
-  by_link : {p : Pg} {i : ℕ} {v : Value} {ss : Shs} → slice_get (values p.decls) i ≡ Some v → Contains (program_targets p) (false, i) → PageOf p v.con ss → IsEntry p i false (record { name = value_name p v; arguments = ss; form = None })
-  by_action : {p : Pg} {i : ℕ} {v : Value} {ss : Shs} {f : Sh} → slice_get (values p.decls) i ≡ Some v → Contains (program_targets p) (true, i) → FormOf p v.con ss f → IsEntry p i true (record { name = value_name p v; arguments = ss; form = Some f })
+  by_export : {p : Pg} {i : ℕ} {v : Value} {ss : Shs} → slice_get (values p.decls) i ≡ Some v → Contains p.exports i → TakesToPage p v.con ss → IsEntry p i false (record { name = value_name p v; arguments = ss; form = None })
+  by_link : {p : Pg} {i : ℕ} {v : Value} {ss : Shs} → slice_get (values p.decls) i ≡ Some v → Contains (program_targets p) (false, i) → TakesToPage p v.con ss → IsEntry p i false (record { name = value_name p v; arguments = ss; form = None })
+  by_action : {p : Pg} {i : ℕ} {v : Value} {ss : Shs} {f : Sh} → slice_get (values p.decls) i ≡ Some v → Contains (program_targets p) (true, i) → TakesFormToPage p v.con ss f → IsEntry p i true (record { name = value_name p v; arguments = ss; form = Some f })
 
 -- the entries from a value on, in the order of the values' numbers, GET before POST
 pub data EntriesFrom : Pg → ℕ → List Value → List (ℕ × Ent) → Type 0 where

@@ -1,6 +1,6 @@
--- A whole program and a request of it, worked out: one value, main, that returns one page.
-use Rattle.std.specs.Prelude.{ℕ, true, false, List, [], ◌∷◌, ◌++◌, None, codes}
-use Rattle.table_rows.specs.Shapes.{Sh}
+-- Whole programs, worked out: one value, main, that returns one page, with a request of it; and one with a fault.
+use Rattle.std.specs.Prelude.{true, false, [], ◌∷◌, ◌++◌, None, codes}
+use Rattle.con_terms.specs.Trees.{Cn, name}
 use Rattle.link_router.specs.Calls.{Asked}
 use Rattle.xml_trees.specs.declared.tag.Tag.TheVariants as tag
 use Rattle.xml_trees.specs.Trees.{Nothing, Element}
@@ -10,8 +10,10 @@ use Rattle.core_terms.specs.Names.{basis_texts}
 use Rattle.core_terms.specs.Types.{no_types, page_type, transaction_of}
 use Rattle.core_terms.specs.Trees.{Ex, basis, call, element, no_items, with_term, tagged, no_attributes, no_nodes, val, Pg}
 use Rattle.core_terms.specs.Accepts.{Accepts}
-use Rattle.core_terms.specs.Requests.{Answers, Form, finished}
-use Rattle.core_terms.specs.ExampleTerms.{byte, said, with_added, in_html_row}
+use Rattle.core_terms.specs.Requests.{Answers, finished}
+use Rattle.core_terms.specs.Faults.{not_disjoint}
+use Rattle.core_terms.specs.Tells.{ProgramTells}
+use Rattle.core_terms.specs.ExampleTerms.{byte, said, with_added, in_html_row, a_name, x_name, example_texts, clashing}
 
 -- <xml><body></body></xml>
 abbrev pub empty_body : Ex
@@ -39,4 +41,20 @@ OnePageIsAccepted = Accepts one_page
 
 -- Its answer to GET /Main/main is the page, within eight steps; forms don't matter.
 abbrev pub OnePageIsAnswered : Type 0
-OnePageIsAnswered = (read : Sh → List ℕ → Form) → Answers read one_page get_main 8 (finished (Element tag.Body [] Nothing Nothing) [] [])
+OnePageIsAnswered = Answers one_page get_main 8 (finished (Element tag.Body [] Nothing Nothing) [] [])
+
+-- val x = {A = 1} ++ {A = 2}, with some type in place of the one that isn't written
+abbrev pub clashing_program : Cn → Pg
+clashing_program t = record {
+  names = example_texts;
+  modules = codes "Main" ∷ [];
+  decls = val (byte 0) x_name false t clashing ∷ [];
+  rules = [];
+  foreigns = [];
+  folders = [];
+  exports = [];
+}
+
+-- Whatever that type is, told is not disjoint #A #A, at the first byte of the term.
+abbrev pub ClashOfProgramIsTold : Type 0
+ClashOfProgramIsTold = (t : Cn) → ProgramTells (clashing_program t) (not_disjoint (byte 8) (name a_name) (name a_name))

@@ -10,7 +10,7 @@ use Rattle.core_terms.specs.Names.{basis_texts, option_name, list_name, html_con
 use Rattle.core_terms.specs.Types.{int_type, string_type, unit_type, type_row, no_types, one_field, unit_row}
 use Rattle.core_terms.specs.Datatypes.{basis_datatypes}
 use Rattle.core_terms.specs.Scopes.{Sc, top_scope}
-use Rattle.core_terms.specs.Trees.{Pt, pattern, binds, is_holding, has_fields, no_pat_fields, Ex, node, Fo, bound, top, basis, fold_over, number, text, fn, fn_con, fn_guard, call, case_of, ascribed, fields_of, select, concat, without, folder, element, Its, no_items, with_term, with_con, no_branches, no_fields, field, tagged, no_attributes, attribute, no_nodes, a_node}
+use Rattle.core_terms.specs.Trees.{Pt, pattern, any, binds, is_bare, is_holding, has_fields, no_pat_fields, pat_field, Ex, node, Fo, bound, top, basis, fold_over, number, text, fn, fn_con, fn_guard, call, case_of, ascribed, fields_of, select, concat, without, folder, element, Its, no_items, with_term, with_con, no_branches, no_fields, field, tagged, no_attributes, attribute, no_nodes, a_node}
 use Rattle.core_terms.specs.Applied.{Rn}
 
 -- a place in the first file
@@ -129,6 +129,19 @@ without_none = node (byte 31) false (case_of (node (byte 36) false (bound 0)) (b
 
 abbrev pub option_int : Cn
 option_int = app (basic option_name) int_type
+
+-- {nm = None, ...} and {nm = Some _, ...}, at $([nm = option int] ++ r), under nm :: Name and r :: {Type}
+abbrev pub at_name : Pt → Pt
+at_name q = pattern (byte 0) (has_fields (pat_field (byte 0) (var 1) q no_pat_fields) true)
+
+abbrev pub none_at_name : Pt
+none_at_name = at_name (pattern (byte 0) (is_bare option_name 0))
+
+abbrev pub some_at_name : Pt
+some_at_name = at_name (pattern (byte 0) (is_holding option_name 1 (pattern (byte 0) any)))
+
+abbrev pub option_at_name : Cn
+option_at_name = record_of (cat (one_field (var 1) option_int) (var 0))
 
 -- fn t => option t, fn t => list t, and fn t => option (list t)
 abbrev pub options : Cn

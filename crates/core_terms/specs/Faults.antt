@@ -1,12 +1,11 @@
 -- The faults of a program: where each stands, and what it keeps.
 use Rattle.std.specs.Prelude.{◌≡◌, ℕ, ◌<◌, ◌⊎◌, List}
 use Rattle.con_terms.specs.Trees.{Kd, Cn}
-use Rattle.con_terms.specs.Kinded.{Scope}
 use Rattle.con_terms.specs.declared.place.Place.{Place}
 use Rattle.core_terms.specs.declared.markup.AttrName.{AttrName}
 use Rattle.core_terms.specs.Cover.{Shp}
 
--- what isn't bound: a variable, a top-level value or a foreign effect by its number, a constructor variable, a symbol, a constructor of a datatype, an attribute of a tag, or the name of an input's field
+-- what isn't bound: a variable, a top-level value or a foreign effect by its number, a constructor variable, a symbol, a constructor of a datatype, an attribute of a tag, a folder for a kind, or the name of an input's field
 pub data Unbound : Type 0 where
   a_variable : ℕ → Unbound
   a_value : ℕ → Unbound
@@ -52,7 +51,3 @@ at (too_large p) = p
 -- by file, and then by byte
 abbrev pub Earlier : Place → Place → Type 0
 Earlier p q = (p.file < q.file) ⊎ ((p.file ≡ q.file) × (p.at < q.at))
-
--- what kinding tells of a constructor that should have a kind where it stands at a place
-abbrev pub KindFaults : Type 1
-KindFaults = Scope → Place → Cn → Kd → Fault → Type 0

@@ -1,10 +1,12 @@
 -- Laws of kinds: what stays when constructors are seen from under further binders and guards, and when a constructor is put for a binder.
-use Rattle.std.specs.Prelude.{◌≡◌, ℕ, Bool, true, false, List, ◌∷◌, ◌++◌, length, map}
+use Rattle.std.specs.Prelude.{◌≡◌, ℕ, List, ◌∷◌, ◌++◌, Some, length, map}
 use Rattle.std.specs.List.{Contains}
-use Rattle.con_terms.specs.Trees.{Kd, types, names, Cn, name, app, row, cat, map_of}
+use Rattle.con_terms.specs.Trees.{Kd, Cn}
 use Rattle.con_terms.specs.Substitution.{shift, subst, subst_at}
 use Rattle.con_terms.specs.Apart.{Guards}
 use Rattle.con_terms.specs.Kinded.{Scope, bind, Kinded}
+use Rattle.row_normal.specs.Contracted.{contracted}
+use Rattle.row_normal.specs.Steps.{step, reduced}
 
 -- guards seen from under so many more binders, from a number on
 abbrev pub guards_shifted : ℕ → ℕ → Guards → Guards
@@ -20,6 +22,12 @@ KindsStayUnderBinders = (inner outer new : List Kd) (gs : Guards) (basics : List
     → Kinded (record { binders = inner ++ outer; guards = gs; basics = basics }) c k
     → Kinded (record { binders = inner ++ new ++ outer; guards = guards_shifted (length new) (length inner) gs; basics = basics }) (shift (length new) c (length inner)) k
 
+-- a scope with the same binders and basic names, and at least the guards
+pub record Widens (G H : Scope) : Type 0 where
+  pub binders : H.binders ≡ G.binders
+  pub guards : (g : Cn × Cn) → Contains G.guards g → Contains H.guards g
+  pub basics : H.basics ≡ G.basics
+
 -- A constructor has its kind where more guards are assumed.
 abbrev pub KindsStayUnderGuards : Type 0
 KindsStayUnderGuards = (binders : List Kd) (gs hs : Guards) (basics : List (ℕ × Kd)) (c : Cn) (k : Kd)
@@ -27,26 +35,27 @@ KindsStayUnderGuards = (binders : List Kd) (gs hs : Guards) (basics : List (ℕ 
     → Kinded (record { binders = binders; guards = gs; basics = basics }) c k
     → Kinded (record { binders = binders; guards = hs; basics = basics }) c k
 
--- no row that is taken apart into pieces, nor map
-abbrev pub is_whole : Cn → Bool
-is_whole (row k ps) = false
-is_whole (cat a b) = false
-is_whole (map_of k l) = false
-is_whole (app (map_of k l) f) = false
-is_whole (app (app (map_of k l) f) r) = false
-is_whole _ = true
-
--- A constructor that is whole may be put for a binder of its kind, anywhere among those that are there.
-abbrev pub WholesSubstitute : Type 0
-WholesSubstitute = (inner outer : List Kd) (l : Kd) (gs : Guards) (basics : List (ℕ × Kd)) (a c : Cn) (k : Kd)
-    → is_whole a ≡ true
+-- A constructor may be put for a binder of its kind, anywhere among those that are there.
+abbrev pub ConstructorsSubstitute : Type 0
+ConstructorsSubstitute = (inner outer : List Kd) (l : Kd) (gs : Guards) (basics : List (ℕ × Kd)) (a c : Cn) (k : Kd)
     → Kinded (record { binders = inner ++ outer; guards = guards_with a (length inner) gs; basics = basics }) (shift (length inner) a 0) l
     → Kinded (record { binders = inner ++ l ∷ outer; guards = gs; basics = basics }) c k
     → Kinded (record { binders = inner ++ outer; guards = guards_with a (length inner) gs; basics = basics }) (subst_at a c (length inner)) k
 
--- So a type may be put for a binder of kind Type, and a name for one of kind Name.
-abbrev pub TypesSubstitute : Type 0
-TypesSubstitute = (G : Scope) (a c : Cn) (k : Kd) → Kinded G a types → Kinded (bind types G) c k → Kinded G (subst c a) k
+-- So one may be put for the innermost binder.
+abbrev pub KindsSubstitute : Type 0
+KindsSubstitute = (G : Scope) (l : Kd) (a c : Cn) (k : Kd) → Kinded G a l → Kinded (bind l G) c k → Kinded G (subst c a) k
 
-abbrev pub NamesSubstitute : Type 0
-NamesSubstitute = (G : Scope) (a c : Cn) (k : Kd) → Kinded G a names → Kinded (bind names G) c k → Kinded G (subst c a) k
+-- A step keeps a constructor's kind.
+abbrev pub StepsKeepKinds : Type 0
+StepsKeepKinds = (G : Scope) (c d : Cn) (k : Kd) → Kinded G c k → step c ≡ Some d → Kinded G d k
+
+-- So does removing eta redexes.
+abbrev pub EtaKeepsKinds : Type 0
+EtaKeepsKinds = (G : Scope) (c : Cn) (k : Kd) → Kinded G c k → Kinded G (contracted c) k
+
+-- So what steps leave at last, without eta redexes, has the kind: a normal form before the pieces of its rows are put in order.
+-- Of putting them in order this isn't claimed. What a ++ (b ++ c) has is that a is apart from b ++ c, or from a row equal to it;
+-- that a is then apart from b would ask that equal rows have equal pieces, which isn't proved.
+abbrev pub ReducedKeepsKinds : Type 0
+ReducedKeepsKinds = (G : Scope) (c d : Cn) (k : Kd) (room left now : ℕ) → Kinded G c k → reduced room left c ≡ Some (d, now) → Kinded G (contracted d) k

@@ -8,6 +8,7 @@ pub mod Datatypes
 pub mod Scopes
 pub mod Seen
 pub mod Cover
+pub mod Asks
 pub mod Patterns
 pub mod Markup
 pub mod Carried
@@ -21,14 +22,18 @@ pub mod Actions
 pub mod Declarations
 pub mod Targets
 pub mod Entries
+pub mod Leaves
 pub mod Accepts
 pub mod Requests
 pub mod Faults
+pub mod Judged
 pub mod Compared
 pub mod PatternFaults
 pub mod Found
 pub mod Own
 pub mod Tells
+pub mod FaultLaws
+pub mod FoundProgram
 pub mod Budget
 pub mod ExampleTerms
 pub mod ExampleRuns
@@ -40,3 +45,6 @@ pub mod ExampleProgram
 pub mod KindLaws
 pub mod Lists
 pub mod SiteLaws
+pub mod ConSubstitution
+pub mod Grounded
+pub mod ConLaws

@@ -1,9 +1,11 @@
 -- What is in scope where a term stands.
-use Rattle.std.specs.Prelude.{ℕ, List, [], ◌∷◌, ◌++◌, map, Option, Some, None}
+use Rattle.std.specs.Prelude.{ℕ, List, [], ◌∷◌, ◌++◌, map, Option, Some, None, if◌then◌else◌}
 use Rattle.con_terms.specs.Trees.{Kd, types, row_of, to, Cn}
+use Rattle.con_terms.specs.Same.{kd_eq}
 use Rattle.con_terms.specs.Substitution.{shift}
 use Rattle.con_terms.specs.Kinded.{Scope, bind, assume}
 use Rattle.row_normal.specs.NormalForm.{nf}
+use Rattle.kind_rules.specs.Compared.{comparison_units}
 use Rattle.core_terms.specs.Names.{int_name, string_name, url_name, transaction_name, xml_name, show_name, eq_name, ord_name, num_name}
 use Rattle.core_terms.specs.Types.{type_taking}
 use Rattle.core_terms.specs.Trees.{Dt}
@@ -46,6 +48,11 @@ abbrev pub folder_kinds : List (Kd × ℕ) → List (ℕ × Kd)
 folder_kinds [] = []
 folder_kinds (f ∷ fs) = (f.1, to (row_of f.0) types) ∷ folder_kinds fs
 
+-- the symbol of folder at a kind, the first that stands there
+abbrev pub folder_of : List (Kd × ℕ) → Kd → Option ℕ
+folder_of [] k = None
+folder_of (f ∷ fs) k = if kd_eq f.0 k then Some f.1 else folder_of fs k
+
 -- a scope at the top
 abbrev pub top_scope : List Cn → List Dt → List (Kd × ℕ) → ℕ → Sc
 top_scope tops ds fs effects = record {
@@ -57,10 +64,6 @@ top_scope tops ds fs effects = record {
   effects = effects;
 }
 
--- how many units one comparison has
-abbrev pub comparison_units : ℕ
-comparison_units = 100000
-
--- a constructor's normal form, where it isn't too large
+-- a constructor's normal form within the units of one comparison, where it isn't too large
 abbrev pub normal_of : Cn → Option Cn
 normal_of c = elim (nf comparison_units c) [ None ↦ None | Some r ↦ Some r.0 ]

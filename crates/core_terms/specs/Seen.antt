@@ -10,8 +10,8 @@ pub data Seen : Type 0 where
   a_text : Seen
   -- a datatype at arguments
   a_datatype : Dt → List Cn → Seen
-  -- a record with these fields, and perhaps others
-  a_record : List (ℕ × Cn) → Seen
+  -- a record with these fields, by their names in normal form, and perhaps others
+  a_record : List (Cn × Cn) → Seen
   nothing_more : Seen
 
 -- fields with literal names
@@ -25,6 +25,16 @@ abbrev pub literal_fields : Cn → List (ℕ × Cn)
 literal_fields (row k ps) = literal_pairs ps
 literal_fields (cat a b) = literal_fields a ++ literal_fields b
 literal_fields _ = []
+
+-- all its fields, whatever their names
+abbrev pub named_pairs : Prs → List (Cn × Cn)
+named_pairs no_pairs = []
+named_pairs (pair n v ps) = (n, v) ∷ named_pairs ps
+
+abbrev pub named_fields : Cn → List (Cn × Cn)
+named_fields (row k ps) = named_pairs ps
+named_fields (cat a b) = named_fields a ++ named_fields b
+named_fields _ = []
 
 -- a datatype at arguments, where it has as many as it takes
 abbrev pub seen_data : Dt → List Cn → Seen
@@ -41,7 +51,7 @@ seen_basic ds s args =
 abbrev pub seen_at : List Dt → Cn → List Cn → Seen
 seen_at ds (basic s) args = seen_basic ds s args
 seen_at ds (app f a) args = seen_at ds f (a ∷ args)
-seen_at ds (record_of r) args = a_record (literal_fields r)
+seen_at ds (record_of r) args = a_record (named_fields r)
 seen_at ds _ args = nothing_more
 
 abbrev pub seen : List Dt → Cn → Seen

@@ -1,5 +1,5 @@
 -- What is left of a term when what was inserted is dropped: its source, with names resolved.
--- Dropped are inserted constructors, guards, folders and instances at calls; and types, kinds, rows and contexts that weren't written become ().
+-- Dropped are inserted constructors, guards, folders and instances at calls, and a call of which no item is left; types, rows and contexts that weren't written become (). A kind that isn't written at a binder is Type, and so belongs to the source.
 use Rattle.std.specs.Prelude.{Bool, true, false}
 use Rattle.con_terms.specs.Trees.{Kd, types, Cn, unit_con}
 use Rattle.con_terms.specs.declared.place.Place.{Place}
@@ -10,7 +10,7 @@ abbrev pub if_written : Bool → Cn → Cn
 if_written true t = t
 if_written false t = unit_con
 
--- a kind where it was written
+-- a con declaration's kind where it was written
 abbrev pub kind_if_written : Bool → Kd → Kd
 kind_if_written true k = k
 kind_if_written false k = types
@@ -51,33 +51,38 @@ keep_term false e is = with_term e is
 abbrev pub was_added : Ex → Bool
 was_added (node p a f) = a
 
+-- what is left of a call: its head alone where no item is left
+abbrev pub call_left : Place → Bool → Ex → Its → Ex
+call_left p a (node q b f) no_items = node q a f
+call_left p a f is = node p a (call f is)
+
 abbrev mutual
   pub strip : Ex → Ex
-  strip (node p a f) = node p a (strip_form f)
+  strip (node p a f) = strip_form p a f
 
-  pub strip_form : Fo → Fo
-  strip_form (bound i) = bound i
-  strip_form (top i) = top i
-  strip_form (foreign i) = foreign i
-  strip_form (basis b) = basis b
-  strip_form (fold_over k) = fold_over types
-  strip_form (number z) = number z
-  strip_form (text t) = text t
-  strip_form (built s j) = built s j
-  strip_form (fn p w t e) = fn (strip_pattern p) w (if_written w t) (strip e)
-  strip_form (fn_con x i w k e) = fn_con x i w (kind_if_written w k) (strip e)
-  strip_form (fn_guard c d e) = fn_guard c d (strip e)
-  strip_form (call f is) = call (strip f) (strip_items is)
-  strip_form (let_in ls e) = let_in (strip_locals ls) (strip e)
-  strip_form (case_of e p q b bs) = case_of (strip e) p (strip_pattern q) (strip b) (strip_branches bs)
-  strip_form (ascribed e t) = ascribed (strip e) t
-  strip_form (fields_of fs) = fields_of (strip_fields fs)
-  strip_form (select e c) = select (strip e) c
-  strip_form (concat e d) = concat (strip e) (strip d)
-  strip_form (without e c) = without (strip e) c
-  strip_form (without_row e c) = without_row (strip e) c
-  strip_form (folder k ps) = folder k ps
-  strip_form (element m) = element (strip_element m)
+  pub strip_form : Place → Bool → Fo → Ex
+  strip_form p a (bound i) = node p a (bound i)
+  strip_form p a (top i) = node p a (top i)
+  strip_form p a (foreign i) = node p a (foreign i)
+  strip_form p a (basis b) = node p a (basis b)
+  strip_form p a (fold_over k) = node p a (fold_over types)
+  strip_form p a (number z) = node p a (number z)
+  strip_form p a (text t) = node p a (text t)
+  strip_form p a (built s j) = node p a (built s j)
+  strip_form p a (fn q w t e) = node p a (fn (strip_pattern q) w (if_written w t) (strip e))
+  strip_form p a (fn_con x i w k e) = node p a (fn_con x i w k (strip e))
+  strip_form p a (fn_guard c d e) = node p a (fn_guard c d (strip e))
+  strip_form p a (call f is) = call_left p a (strip f) (strip_items is)
+  strip_form p a (let_in ls e) = node p a (let_in (strip_locals ls) (strip e))
+  strip_form p a (case_of e r q b bs) = node p a (case_of (strip e) r (strip_pattern q) (strip b) (strip_branches bs))
+  strip_form p a (ascribed e t) = node p a (ascribed (strip e) t)
+  strip_form p a (fields_of fs) = node p a (fields_of (strip_fields fs))
+  strip_form p a (select e c) = node p a (select (strip e) c)
+  strip_form p a (concat e d) = node p a (concat (strip e) (strip d))
+  strip_form p a (without e c) = node p a (without (strip e) c)
+  strip_form p a (without_row e c) = node p a (without_row (strip e) c)
+  strip_form p a (folder k ps) = node p a (folder k ps)
+  strip_form p a (element m) = node p a (element (strip_element m))
 
   pub strip_items : Its → Its
   strip_items no_items = no_items

@@ -1,8 +1,7 @@
 -- Which fault a program tells: of all premises that fail, in the declarations and in the terms, the first in text order, and the inner first where two begin at one byte.
-use Rattle.std.specs.Prelude.{◌≡◌, ℕ, ◌<◌, Bool, List, [], ◌∷◌, ◌++◌, Option, Some, slice_get}
+use Rattle.std.specs.Prelude.{◌≡◌, ℕ, ◌<◌, Bool, List, [], ◌∷◌, ◌++◌, Option, Some, Ok, slice_get}
 use Rattle.std.specs.List.{Contains}
-use Rattle.con_terms.specs.Trees.{Kd, types, row_of, Cn}
-use Rattle.con_terms.specs.Kinded.{Kinded}
+use Rattle.con_terms.specs.Trees.{Kd, types, Cn}
 use Rattle.con_terms.specs.declared.place.Place.{Place}
 use Rattle.link_router.specs.Calls.{Ent}
 use Rattle.core_terms.specs.declared.markup.AttrName.{AttrName}
@@ -10,10 +9,11 @@ use Rattle.core_terms.specs.declared.markup.TagName.{TagName}
 use Rattle.core_terms.specs.Trees.{Pt, Ex, node, fn, fn_con, fn_guard, call, let_in, case_of, ascribed, fields_of, select, concat, without, without_row, element, Its, with_term, with_con, with_guard, Nms, named, Los, no_locals, local_val, local_rec, Brs, branch, Fds, field, tagged, Ats, attribute, Xs, a_node, De, val, vals, con_is, datatype, Cd, Dt, Pg}
 use Rattle.core_terms.specs.Scopes.{Sc, under, under_con, under_guard}
 use Rattle.core_terms.specs.Typed.{named_types}
+use Rattle.core_terms.specs.Judged.{HasKind, LacksKind, guard_forms}
 use Rattle.core_terms.specs.PatternFaults.{PatFound}
 use Rattle.core_terms.specs.Found.{Found}
-use Rattle.core_terms.specs.Own.{Own, OfKind, Wants, NamedFault, place_of}
-use Rattle.core_terms.specs.Faults.{Fault, redeclared, twice_constructor, twice_entry, at, Earlier, KindFaults}
+use Rattle.core_terms.specs.Own.{Own, Wants, NamedFault, place_of, type_place}
+use Rattle.core_terms.specs.Faults.{Fault, redeclared, twice_constructor, twice_entry, at, Earlier}
 use Rattle.core_terms.specs.Declarations.{Value, values, value_types, named_values, scope_with, under_types}
 use Rattle.core_terms.specs.Entries.{IsEntry}
 
@@ -59,9 +59,9 @@ pub data InAttributes : Ats → Ex → Type 0 where
 
 -- a part of a node, with its scope. A part whose scope depends on another part that has no type is none
 pub data Sub : Sc → Ex → Sc → Ex → Type 0 where
-  fn_body : {G : Sc} {p : Place} {a w : Bool} {q : Pt} {t : Cn} {ts : List Cn} {e : Ex} → Kinded G.kinds t types → PatFound G q t ts → Sub G (node p a (fn q w t e)) (under ts G) e
+  fn_body : {G : Sc} {p : Place} {a w : Bool} {q : Pt} {t : Cn} {ts : List Cn} {e : Ex} → HasKind G t types → PatFound G q t ts → Sub G (node p a (fn q w t e)) (under ts G) e
   con_body : {G : Sc} {p : Place} {a i w : Bool} {x : ℕ} {k : Kd} {e : Ex} → Sub G (node p a (fn_con x i w k e)) (under_con k G) e
-  guard_body : {G : Sc} {p : Place} {a : Bool} {c d : Cn} {k l : Kd} {e : Ex} → Kinded G.kinds c (row_of k) → Kinded G.kinds d (row_of l) → Sub G (node p a (fn_guard c d e)) (under_guard c d G) e
+  guard_body : {G : Sc} {p : Place} {a : Bool} {c d m n : Cn} {e : Ex} → guard_forms G.kinds c d ≡ Ok (m, n) → Sub G (node p a (fn_guard c d e)) (under_guard m n G) e
   function : {G : Sc} {p : Place} {a : Bool} {e : Ex} {is : Its} → Sub G (node p a (call e is)) G e
   argument : {G : Sc} {p : Place} {a : Bool} {f e : Ex} {is : Its} → InItems is e → Sub G (node p a (call f is)) G e
   local_term : {G H : Sc} {p : Place} {a : Bool} {ls : Los} {d e : Ex} → InLocals G ls H e → Sub G (node p a (let_in ls d)) H e
@@ -80,18 +80,18 @@ pub data Sub : Sc → Ex → Sc → Ex → Type 0 where
   inner_node : {G : Sc} {p : Place} {a : Bool} {g : TagName} {n : Option Cn} {c u : Cn} {as' : Ats} {xs : Xs} {e : Ex} → InNodes xs e → Sub G (node p a (element (tagged g n c u as' xs))) G e
 
 -- a premise fails in a node or in a part of it
-pub data Fails (K : KindFaults) : Sc → Ex → Fault → Type 0 where
-  itself : {G : Sc} {e : Ex} {f : Fault} → Own K G e f → Fails K G e f
-  inside : {G H : Sc} {e c : Ex} {f : Fault} → Sub G e H c → Fails K H c f → Fails K G e f
+pub data Fails : Sc → Ex → Fault → Type 0 where
+  itself : {G : Sc} {e : Ex} {f : Fault} → Own G e f → Fails G e f
+  inside : {G H : Sc} {e c : Ex} {f : Fault} → Sub G e H c → Fails H c f → Fails G e f
 
 -- What a declaration has at fault itself: a kind, a term that hasn't the written type, a constructor of a name that stands before it.
-pub data DeclOwn (K : KindFaults) : Pg → List Cn → List Dt → De → Fault → Type 0 where
-  type_kind : {p : Pg} {tops : List Cn} {ds : List Dt} {q : Place} {x : ℕ} {w : Bool} {t : Cn} {e : Ex} {f : Fault} → OfKind K (scope_with p tops ds) q t types f → DeclOwn K p tops ds (val q x w t e) f
-  other_type : {p : Pg} {tops : List Cn} {ds : List Dt} {q : Place} {x : ℕ} {w : Bool} {t u : Cn} {e : Ex} {f : Fault} → Kinded (scope_with p tops ds).kinds t types → Found (scope_with p tops ds) e u → Wants (place_of e) t u f → DeclOwn K p tops ds (val q x w t e) f
-  in_named : {p : Pg} {tops : List Cn} {ds : List Dt} {ns : Nms} {f : Fault} → NamedFault K (scope_with p tops ds) (scope_with p (tops ++ value_types (named_values ns)) ds) ns f → DeclOwn K p tops ds (vals ns) f
-  con_kind : {p : Pg} {tops : List Cn} {ds : List Dt} {q : Place} {x : ℕ} {w : Bool} {k : Kd} {c : Cn} {f : Fault} → OfKind K (scope_with p tops ds) q c k f → DeclOwn K p tops ds (con_is q x w k c) f
-  held_kind : {p : Pg} {tops : List Cn} {ds : List Dt} {d : Dt} {c : Cd} {held : Cn} {f : Fault} → Contains d.constructors c → c.holds ≡ Some held → OfKind K (under_types d.parameters (scope_with p tops (ds ++ d ∷ []))) c.place held types f → DeclOwn K p tops ds (datatype d) f
-  same_constructor : {p : Pg} {tops : List Cn} {ds : List Dt} {d : Dt} {i j : ℕ} {b c : Cd} → slice_get d.constructors i ≡ Some b → slice_get d.constructors j ≡ Some c → i < j → b.name ≡ c.name → DeclOwn K p tops ds (datatype d) (redeclared c.place (twice_constructor c.name))
+pub data DeclOwn : Pg → List Cn → List Dt → De → Fault → Type 0 where
+  type_kind : {p : Pg} {tops : List Cn} {ds : List Dt} {q : Place} {x : ℕ} {w : Bool} {t : Cn} {e : Ex} {f : Fault} → LacksKind (scope_with p tops ds) (type_place w q e) t types f → DeclOwn p tops ds (val q x w t e) f
+  other_type : {p : Pg} {tops : List Cn} {ds : List Dt} {q : Place} {x : ℕ} {w : Bool} {t u : Cn} {e : Ex} {f : Fault} → HasKind (scope_with p tops ds) t types → Found (scope_with p tops ds) e u → Wants (place_of e) t u f → DeclOwn p tops ds (val q x w t e) f
+  in_named : {p : Pg} {tops : List Cn} {ds : List Dt} {ns : Nms} {f : Fault} → NamedFault (scope_with p tops ds) (scope_with p (tops ++ value_types (named_values ns)) ds) ns f → DeclOwn p tops ds (vals ns) f
+  con_kind : {p : Pg} {tops : List Cn} {ds : List Dt} {q : Place} {x : ℕ} {w : Bool} {k : Kd} {c : Cn} {f : Fault} → LacksKind (scope_with p tops ds) q c k f → DeclOwn p tops ds (con_is q x w k c) f
+  held_kind : {p : Pg} {tops : List Cn} {ds : List Dt} {d : Dt} {c : Cd} {held : Cn} {f : Fault} → Contains d.constructors c → c.holds ≡ Some held → LacksKind (under_types d.parameters (scope_with p tops (ds ++ d ∷ []))) c.place held types f → DeclOwn p tops ds (datatype d) f
+  same_constructor : {p : Pg} {tops : List Cn} {ds : List Dt} {d : Dt} {i j : ℕ} {b c : Cd} → slice_get d.constructors i ≡ Some b → slice_get d.constructors j ≡ Some c → i < j → b.name ≡ c.name → DeclOwn p tops ds (datatype d) (redeclared c.place (twice_constructor c.name))
 
 -- the terms of a declaration, with their scopes
 pub data DeclSub : Pg → List Cn → List Dt → De → Sc → Ex → Type 0 where
@@ -107,28 +107,28 @@ pub data DeclAt : List Cn → List Dt → List De → List Cn → List Dt → De
   past_datatype : {tops us : List Cn} {ds es : List Dt} {b : Dt} {rest : List De} {d : De} → DeclAt tops (ds ++ b ∷ []) rest us es d → DeclAt tops ds (datatype b ∷ rest) us es d
 
 -- what a program has at fault outside of terms: a declaration's own fault, or a second entry of one name that is read by one method
-pub data ProgramOwn (K : KindFaults) : Pg → Fault → Type 0 where
-  of_declaration : {p : Pg} {tops : List Cn} {ds : List Dt} {d : De} {f : Fault} → DeclAt [] [] p.decls tops ds d → DeclOwn K p tops ds d f → ProgramOwn K p f
-  same_entry : {p : Pg} {i j : ℕ} {post : Bool} {b e : Ent} {v : Value} → IsEntry p i post b → IsEntry p j post e → i < j → b.name ≡ e.name → slice_get (values p.decls) j ≡ Some v → ProgramOwn K p (redeclared v.place (twice_entry e.name))
+pub data ProgramOwn : Pg → Fault → Type 0 where
+  of_declaration : {p : Pg} {tops : List Cn} {ds : List Dt} {d : De} {f : Fault} → DeclAt [] [] p.decls tops ds d → DeclOwn p tops ds d f → ProgramOwn p f
+  same_entry : {p : Pg} {i j : ℕ} {post : Bool} {b e : Ent} {v : Value} → IsEntry p i post b → IsEntry p j post e → i < j → b.name ≡ e.name → slice_get (values p.decls) j ≡ Some v → ProgramOwn p (redeclared v.place (twice_entry e.name))
 
 -- a term of a declaration of a program
 pub data ProgramSub : Pg → Sc → Ex → Type 0 where
   in_declaration : {p : Pg} {tops : List Cn} {ds : List Dt} {d : De} {G : Sc} {e : Ex} → DeclAt [] [] p.decls tops ds d → DeclSub p tops ds d G e → ProgramSub p G e
 
-pub data ProgramFails (K : KindFaults) : Pg → Fault → Type 0 where
-  outside_terms : {p : Pg} {f : Fault} → ProgramOwn K p f → ProgramFails K p f
-  in_term : {p : Pg} {G : Sc} {e : Ex} {f : Fault} → ProgramSub p G e → Fails K G e f → ProgramFails K p f
+pub data ProgramFails : Pg → Fault → Type 0 where
+  outside_terms : {p : Pg} {f : Fault} → ProgramOwn p f → ProgramFails p f
+  in_term : {p : Pg} {G : Sc} {e : Ex} {f : Fault} → ProgramSub p G e → Fails G e f → ProgramFails p f
 
 -- a node tells the first of its faults: its own only where each part's stands strictly later
-pub data Tells (K : KindFaults) : Sc → Ex → Fault → Type 0 where
-  tells_own : {G : Sc} {e : Ex} {f : Fault} → Own K G e f → ((g : Fault) → Own K G e g → Earlier (at g) (at f) → ⊥) → ((H : Sc) (c : Ex) (g : Fault) → Sub G e H c → Fails K H c g → Earlier (at f) (at g)) → Tells K G e f
-  tells_inner : {G H : Sc} {e c : Ex} {f : Fault} → Sub G e H c → Tells K H c f → ((g : Fault) → Fails K G e g → Earlier (at g) (at f) → ⊥) → Tells K G e f
+pub data Tells : Sc → Ex → Fault → Type 0 where
+  tells_own : {G : Sc} {e : Ex} {f : Fault} → Own G e f → ((g : Fault) → Own G e g → Earlier (at g) (at f) → ⊥) → ((H : Sc) (c : Ex) (g : Fault) → Sub G e H c → Fails H c g → Earlier (at f) (at g)) → Tells G e f
+  tells_inner : {G H : Sc} {e c : Ex} {f : Fault} → Sub G e H c → Tells H c f → ((g : Fault) → Fails G e g → Earlier (at g) (at f) → ⊥) → Tells G e f
 
 -- and so does a program
-pub data ProgramTells (K : KindFaults) : Pg → Fault → Type 0 where
-  tells_outside : {p : Pg} {f : Fault} → ProgramOwn K p f → ((g : Fault) → ProgramOwn K p g → Earlier (at g) (at f) → ⊥) → ((G : Sc) (e : Ex) (g : Fault) → ProgramSub p G e → Fails K G e g → Earlier (at f) (at g)) → ProgramTells K p f
-  tells_in_term : {p : Pg} {G : Sc} {e : Ex} {f : Fault} → ProgramSub p G e → Tells K G e f → ((g : Fault) → ProgramFails K p g → Earlier (at g) (at f) → ⊥) → ProgramTells K p f
+pub data ProgramTells : Pg → Fault → Type 0 where
+  tells_outside : {p : Pg} {f : Fault} → ProgramOwn p f → ((g : Fault) → ProgramOwn p g → Earlier (at g) (at f) → ⊥) → ((G : Sc) (e : Ex) (g : Fault) → ProgramSub p G e → Fails G e g → Earlier (at f) (at g)) → ProgramTells p f
+  tells_in_term : {p : Pg} {G : Sc} {e : Ex} {f : Fault} → ProgramSub p G e → Tells G e f → ((g : Fault) → ProgramFails p g → Earlier (at g) (at f) → ⊥) → ProgramTells p f
 
 -- no fault is told
-abbrev pub Clear : KindFaults → Pg → Type 0
-Clear K p = (f : Fault) → ProgramTells K p f → ⊥
+abbrev pub Clear : Pg → Type 0
+Clear p = (f : Fault) → ProgramTells p f → ⊥

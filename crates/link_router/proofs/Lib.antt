@@ -2,3 +2,4 @@ pub mod Escapes
 pub mod Sent
 pub mod ReadBack
 pub mod OneCall
+pub mod Bodies

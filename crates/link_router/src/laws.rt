@@ -1,6 +1,7 @@
-//! Laws of links: which calls a path is, and links worked by hand.
+//! Laws of links and forms: which calls a path is, which form a body is, and links and forms worked by hand.
+ghost use Rattle.link_router.specs.Forms.{EachBodyIsForm, OneFormAtMost};
 ghost use Rattle.link_router.specs.RouteLaws.{RoutesAreRead, OneCallAtMost};
-ghost use Rattle.link_router.specs.Worked.{WorkedLinks, WorkedPaths};
+ghost use Rattle.link_router.specs.Worked.{WorkedForms, WorkedLinks, WorkedPaths};
 
 /// The links of the texts nothing, `.`, `a/b` and `é`, of a negative number, and of a list.
 pub fn links_are_as_worked()
@@ -20,4 +21,15 @@ pub fn routes_are_read()
 /// At most one call has a path.
 pub fn one_call_at_most()
     ensures { OneCallAtMost }
+{}
+
+/// Bodies of forms: a first pair that counts, an empty value, a checkbox, a lacking field, a spoilt one.
+pub fn forms_are_as_worked()
+    ensures { WorkedForms }
+{}
+
+/// A body is one form at most, and of a form's shape it is one.
+pub fn a_body_is_one_form()
+    ensures at_most { OneFormAtMost }
+    ensures at_least { EachBodyIsForm }
 {}

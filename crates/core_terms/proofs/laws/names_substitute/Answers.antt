@@ -1,5 +1,0 @@
-use Rattle.core_terms.proofs.KindsStay.{names_substitute}
-use Rattle.core_terms.proofs.laws.names_substitute.Goals as goal
-
-pub returns : goal.returns
-returns c = names_substitute
