@@ -1,6 +1,6 @@
 -- What is left of a term has nothing inserted.
 use Rattle.std.proofs.Common.{◌≡◌, Bool, true, false, refl, ap, ◌∙◌}
-use Rattle.con_terms.specs.Trees.{Kd, Cn, unit_con}
+use Rattle.con_terms.specs.Trees.{Cn, unit_con}
 use Rattle.con_terms.specs.declared.place.Place.{Place}
 use Rattle.core_terms.specs.Trees.{Pt, pattern, Pf, any, binds, is_number, is_text, is_bare, is_holding, has_fields, annotated, Pfs, no_pat_fields, pat_field, Ex, node, Fo, bound, top, foreign, basis, fold_over, number, text, built, fn, fn_con, fn_guard, call, let_in, case_of, ascribed, fields_of, select, concat, without, without_row, folder, element, Its, no_items, with_term, with_con, with_guard, Nms, no_named, named, Los, no_locals, local_val, local_rec, Brs, no_branches, branch, Fds, no_fields, field, El, tagged, Ats, no_attributes, attribute, Xs, no_nodes, a_node}
 use Rattle.core_terms.specs.Strip.{if_written, strip_pattern, strip_pattern_form, strip_pattern_fields, keep_con, keep_guard, was_added, call_left, strip, strip_form, strip_items, strip_named, strip_locals, strip_branches, strip_fields, strip_element, strip_attributes, strip_nodes}

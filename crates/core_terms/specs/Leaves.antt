@@ -1,6 +1,6 @@
 -- What whoever builds a program sees to at its leaves: each name of a field, an input or a constructor has a text, each number fits in 64 bits, and each text is UTF-8.
 -- The walks go through every constructor, pattern and term.
-use Rattle.std.specs.Prelude.{ℕ, ◌<◌, List, Option, Some, None, IsUtf8, FitsSigned}
+use Rattle.std.specs.Prelude.{ℕ, ◌<◌, Option, Some, None, IsUtf8, FitsSigned}
 use Rattle.std.specs.Int.{w64}
 use Rattle.std.specs.List.{AllByRecursion}
 use Rattle.con_terms.specs.Trees.{Cn, var, basic, arrow, poly, guarded, record_of, app, lambda, unit_con, name, row, cat, map_of, tuple, proj, Cns, no_cons, con, Prs, no_pairs, pair}

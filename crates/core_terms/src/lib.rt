@@ -1,13 +1,10 @@
-//! The explicit language: terms in which nothing is left to infer, what types they have, and what
-//! they mean.
+//! The terms of the explicit language, in which nothing is left to infer.
 //!
 //! The definitions stand in `specs/`; each file is one subject.
 #![tactic(auto)]
 
-pub mod accepted;
 pub mod basis;
 pub mod decl;
-pub mod examples;
 pub mod exp;
 pub mod laws;
 pub mod lists;
@@ -16,7 +13,6 @@ pub mod pat;
 pub mod program;
 pub mod program_lists;
 
-pub use accepted::Accepted;
 pub use basis::BasisName;
 pub use decl::{Constructor, Constructors, Datatype, Decl, Decls};
 pub use exp::{

@@ -1,5 +1,0 @@
-use Rattle.core_terms.proofs.ExampleClash.{clash_of_program_is_told}
-use Rattle.core_terms.proofs.examples.the_clash_of_a_program_is_told.Goals as goal
-
-pub returns : goal.returns
-returns c = clash_of_program_is_told

@@ -1,5 +1,0 @@
-use Rattle.core_terms.proofs.LargerScopes.{typings_stay}
-use Rattle.core_terms.proofs.laws.a_typing_stays_in_a_larger_scope.Goals as goal
-
-pub returns : goal.returns
-returns c = typings_stay

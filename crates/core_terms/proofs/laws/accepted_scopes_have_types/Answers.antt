@@ -1,5 +1,0 @@
-use Rattle.core_terms.proofs.AcceptedScopes.{accepted_have_types}
-use Rattle.core_terms.proofs.laws.accepted_scopes_have_types.Goals as goal
-
-pub returns : goal.returns
-returns c = accepted_have_types

@@ -1,5 +1,0 @@
-use Rattle.core_terms.proofs.KindsStay.{constructors_substitute}
-use Rattle.core_terms.proofs.laws.constructors_substitute.Goals as goal
-
-pub returns : goal.returns
-returns c = constructors_substitute

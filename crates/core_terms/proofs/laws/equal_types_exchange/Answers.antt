@@ -1,5 +1,0 @@
-use Rattle.core_terms.specs.Typed.{by_equal}
-use Rattle.core_terms.proofs.laws.equal_types_exchange.Goals as goal
-
-pub returns : goal.returns
-returns c = ((λ G e t u h q x. by_equal h q x), (λ G e t u h q x. by_equal h q x), (λ G e t u h q x. by_equal h q x))

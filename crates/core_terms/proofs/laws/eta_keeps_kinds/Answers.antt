@@ -1,5 +1,0 @@
-use Rattle.core_terms.proofs.KindsKept.{contracted_kept}
-use Rattle.core_terms.proofs.laws.eta_keeps_kinds.Goals as goal
-
-pub returns : goal.returns
-returns s = λ G c k h. contracted_kept h

@@ -1,5 +1,0 @@
-use Rattle.core_terms.proofs.PlainNodes.{plain_nodes_fill_nothing}
-use Rattle.core_terms.proofs.laws.plain_nodes_fill_nothing.Goals as goal
-
-pub returns : goal.returns
-returns c = plain_nodes_fill_nothing

@@ -1,5 +1,0 @@
-use Rattle.core_terms.proofs.KindsKept.{step_kept}
-use Rattle.core_terms.proofs.laws.steps_keep_kinds.Goals as goal
-
-pub returns : goal.returns
-returns s = λ G c d k h e. step_kept h d e

@@ -1,5 +1,0 @@
-use Rattle.core_terms.proofs.ProgramSides.{program_sides_differ}
-use Rattle.core_terms.proofs.laws.told_sides_of_programs_differ.Goals as goal
-
-pub returns : goal.returns
-returns c = program_sides_differ

@@ -1,5 +1,0 @@
-use Rattle.core_terms.proofs.TypeKinds.{type_kind}
-use Rattle.core_terms.proofs.laws.types_have_kind_type.Goals as goal
-
-pub returns : goal.returns
-returns c = λ G e t h x. type_kind h x

@@ -1,5 +1,0 @@
-use Rattle.core_terms.proofs.ConsInTerms.{typings_stay_under_binders}
-use Rattle.core_terms.proofs.laws.typings_stay_under_more_binders.Goals as goal
-
-pub returns : goal.returns
-returns c = typings_stay_under_binders

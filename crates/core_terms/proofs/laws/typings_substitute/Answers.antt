@@ -1,5 +1,0 @@
-use Rattle.core_terms.proofs.ConsInTerms.{typings_substitute}
-use Rattle.core_terms.proofs.laws.typings_substitute.Goals as goal
-
-pub returns : goal.returns
-returns c = typings_substitute

@@ -1,5 +1,0 @@
-use Rattle.core_terms.proofs.Silent.{found_tells_nothing}
-use Rattle.core_terms.proofs.laws.what_is_found_tells_nothing.Goals as goal
-
-pub returns : goal.returns
-returns c = found_tells_nothing

@@ -1,0 +1,11 @@
+//! Which programs of the explicit language are accepted: what types terms have, and what is told
+//! of a program that is at fault.
+//!
+//! The definitions stand in `specs/`; each file is one subject.
+#![tactic(auto)]
+
+pub mod accepted;
+pub mod examples;
+pub mod laws;
+
+pub use accepted::Accepted;
