@@ -1,8 +1,9 @@
 -- Types that rules speak of.
 -- The Ur/Web Manual, "The Ur Standard Library" and "The Ur/Web Standard Library".
 use Rattle.std.specs.Prelude.{ℕ, zero, suc, true, List, [], ◌∷◌}
-use Rattle.con_terms.specs.Trees.{Kd, types, units, to, Cn, basic, arrow, poly, record_of, app, unit_con, name, row, Prs, no_pairs, pair}
-use Rattle.core_terms.specs.Names.{int_name, string_name, url_name, bool_name, transaction_name, xml_name, show_name, eq_name, ord_name, num_name, html_context, body_context}
+use Rattle.con_terms.specs.Trees.{Kd, types, units, row_of, to, Cn, var, basic, arrow, poly, record_of, app, lambda, unit_con, name, row, cat, Prs, no_pairs, pair}
+use Rattle.con_terms.specs.Equal.{mapped}
+use Rattle.core_terms.specs.Names.{int_name, string_name, url_name, bool_name, option_name, transaction_name, xml_name, show_name, eq_name, ord_name, num_name, sql_table_name, sql_query_name, sql_exp_name, dml_name, sql_sequence_name, http_cookie_name, sql_injectable_name, html_context, body_context, value_name, secure_name}
 
 abbrev pub int_type : Cn
 int_type = basic int_name
@@ -35,6 +36,9 @@ unit_type = record_of no_types
 abbrev pub transaction_of : Cn → Cn
 transaction_of t = app (basic transaction_name) t
 
+abbrev pub option_of : Cn → Cn
+option_of t = app (basic option_name) t
+
 abbrev pub show_of : Cn → Cn
 show_of t = app (basic show_name) t
 
@@ -66,6 +70,38 @@ page_type = xml_of (unit_row (html_context ∷ [])) no_types no_types
 -- xbody = xml [Body] [] []
 abbrev pub body_type : Cn
 body_type = xml_of (unit_row (body_context ∷ [])) no_types no_types
+
+-- sql_table r: a table whose rows have these columns
+abbrev pub table_of : Cn → Cn
+table_of r = app (basic sql_table_name) r
+
+-- sql_query ts es: a query whose rows have the columns ts of its tables, table by table, and the named results es
+abbrev pub query_of : Cn → Cn → Cn
+query_of ts es = app (app (basic sql_query_name) ts) es
+
+-- sql_exp ts t: a t of each row of the tables ts
+abbrev pub expression_of : Cn → Cn → Cn
+expression_of ts t = app (app (basic sql_exp_name) ts) t
+
+abbrev pub dml_type : Cn
+dml_type = basic dml_name
+
+abbrev pub sequence_type : Cn
+sequence_type = basic sql_sequence_name
+
+abbrev pub cookie_of : Cn → Cn
+cookie_of t = app (basic http_cookie_name) t
+
+abbrev pub injectable_of : Cn → Cn
+injectable_of t = app (basic sql_injectable_name) t
+
+-- $(es ++ map (fn f :: {Type} => $f) ts): a row of a query
+abbrev pub result_of : Cn → Cn → Cn
+result_of ts es = record_of (cat es (mapped (row_of types) types (lambda (row_of types) (record_of (var 0))) ts))
+
+-- {Value : t, Secure : bool}: what a cookie is set to
+abbrev pub setting_of : Cn → Cn
+setting_of t = record_of (type_row (pair (name value_name) t (pair (name secure_name) bool_type no_pairs)))
 
 -- a type with arguments
 abbrev pub at_types : Cn → List Cn → Cn

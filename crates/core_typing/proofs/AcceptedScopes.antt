@@ -10,7 +10,7 @@ use Rattle.con_terms.specs.Substitution.{shift}
 use Rattle.con_terms.specs.Equal.{same}
 use Rattle.con_terms.specs.Apart.{Separated, names_differ, Apart, apart, PairwiseApart}
 use Rattle.con_terms.specs.Kinded.{Scope, bind, assume, basic_kind, Kinded, of_var, of_basic, of_arrow, of_poly, of_guarded, of_record, of_app, of_lambda, of_unit, of_name, of_row, of_cat, of_map, of_tuple, of_proj, KindedAll, no_components, a_component, KindedPairs, no_fields, a_field}
-use Rattle.core_terms.specs.Names.{bool_name, list_name, first_name, second_name, false_name, true_name, none_name, some_name, nil_name, cons_name}
+use Rattle.core_terms.specs.Names.{bool_name, option_name, list_name, first_name, second_name, false_name, true_name, none_name, some_name, nil_name, cons_name}
 use Rattle.core_terms.specs.Trees.{Nms, De, val, vals, con_is, datatype, Cd, Dt, Pg}
 use Rattle.core_terms.specs.Types.{type_taking}
 use Rattle.core_terms.specs.Datatypes.{basis_datatypes, constructor_of, datatype_of}
@@ -299,6 +299,7 @@ has_types p tops ds u g = record { grounded = grounded; locals = λ i t e. cc }
       folders = λ k s c. found_there (names_at p ds) u s (to (row_of k) types) (last (s, to (row_of k) types) (folder_in p.folders k s c));
       basis = λ b c. found_there (names_at p ds) u b.0 b.1 (Contains-append_left basis_kinds (datatype_kinds (basis_datatypes ++ ds) ++ folder_kinds p.folders) b c);
       bools = found_there (names_at p ds) u bool_name types (middle (bool_name, types) (0, omega arith, refl));
+      options = found_there (names_at p ds) u option_name (to types types) (middle (option_name, to types types) (1, omega arith, refl));
     }
 
 datatypes_of : (front rest : List De) → datatypes (front ++ rest) ≡ datatypes front ++ datatypes rest

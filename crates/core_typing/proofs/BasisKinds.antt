@@ -1,16 +1,16 @@
 -- The types of the basis, of fold and of constructors are types, where basic names have their kinds.
-use Rattle.std.proofs.Common.{◌≡◌, ℕ, zero, suc, ◌<◌, List, [], ◌∷◌, Option, Some, None, slice_get, refl, sym, subst, arith}
+use Rattle.std.proofs.Common.{◌≡◌, ◌≢◌, ℕ, zero, suc, ◌<◌, List, [], ◌∷◌, Option, Some, None, slice_get, refl, sym, subst, arith}
 use Rattle.std.specs.List.{Contains, All}
 use Rattle.std.proofs.lemmas.List.Elements.{All-cons, All-nil}
-use Rattle.con_terms.specs.Trees.{Kd, types, units, names, row_of, to, Cn, var, arrow, unit_con, name, row, no_pairs, pair}
-use Rattle.con_terms.specs.Equal.{same}
-use Rattle.con_terms.specs.Apart.{Guards, pieces, HasPiece, has_piece, Separated, by_guard, AllSeparated, Apart, apart}
-use Rattle.con_terms.specs.Kinded.{Scope, bind, basic_kind, Kinded, of_var, of_basic, of_arrow, of_poly, of_guarded, of_record, of_app, of_unit, of_name, of_row, of_cat, no_fields, a_field}
+use Rattle.con_terms.specs.Trees.{Kd, types, units, names, row_of, to, Cn, var, arrow, lambda, unit_con, name, row, no_pairs, pair}
+use Rattle.con_terms.specs.Equal.{same, mapped}
+use Rattle.con_terms.specs.Apart.{Guards, pieces, HasPiece, has_piece, Separated, names_differ, by_guard, by_guard_turned, AllSeparated, Apart, apart}
+use Rattle.con_terms.specs.Kinded.{Scope, bind, assume, basic_kind, Kinded, of_var, of_basic, of_arrow, of_poly, of_guarded, of_record, of_app, of_lambda, of_unit, of_name, of_row, of_cat, of_map, no_fields, a_field}
 use Rattle.core_terms.specs.declared.basis.BasisName.{BasisName}
-use Rattle.core_terms.specs.declared.basis.BasisName.TheVariants.{Return, Bind, Error, Not, Strcat, Plus, Minus, Times, Divide, Mod, Neg, Eq, Ne, Lt, Le, Show, MkShow, MkEq, Txt, Cdata, Join, Bless, NumInt, ShowInt, ShowString, ShowBool, EqInt, EqString, EqBool, OrdInt, OrdString, OrdBool}
-use Rattle.core_terms.specs.Names.{int_name, string_name, url_name, bool_name, transaction_name, xml_name, show_name, eq_name, ord_name, num_name, body_context}
-use Rattle.core_terms.specs.Types.{int_type, string_type, url_type, bool_type, no_types, unit_type, body_type, unit_row, transaction_of, show_of, eq_of, ord_of, num_of, xml_of, at_types, for_types, type_taking}
-use Rattle.core_terms.specs.Basis.{basis_type, two_numbers, two_alike, two_ordered, fold_step_type, fold_type}
+use Rattle.core_terms.specs.declared.basis.BasisName.TheVariants.{Return, Bind, Error, Not, Strcat, Plus, Minus, Times, Divide, Mod, Neg, Eq, Ne, Lt, Le, Show, MkShow, MkEq, Txt, Cdata, Join, Bless, Query, QueryX, OneRow, OneOrNoRows, Dml, Nextval, GetCookie, SetCookie, ClearCookie, NumInt, ShowInt, ShowString, ShowBool, EqInt, EqString, EqBool, OrdInt, OrdString, OrdBool, SqlInt, SqlString, SqlBool}
+use Rattle.core_terms.specs.Names.{int_name, string_name, url_name, bool_name, option_name, transaction_name, xml_name, show_name, eq_name, ord_name, num_name, sql_query_name, dml_name, sql_sequence_name, http_cookie_name, sql_injectable_name, body_context, value_name, secure_name}
+use Rattle.core_terms.specs.Types.{int_type, string_type, url_type, bool_type, no_types, unit_type, body_type, unit_row, transaction_of, option_of, show_of, eq_of, ord_of, num_of, xml_of, query_of, dml_type, sequence_type, cookie_of, injectable_of, result_of, setting_of, at_types, for_types, type_taking}
+use Rattle.core_terms.specs.Basis.{basis_type, two_numbers, two_alike, two_ordered, for_results, plain_xml, fold_step_type, fold_type}
 use Rattle.core_terms.specs.Datatypes.{parameters_of, own_type, constructor_type}
 use Rattle.core_terms.specs.Trees.{Cd, Dt}
 use Rattle.core_typing.specs.Scopes.{basis_kinds}
@@ -20,6 +20,7 @@ use Rattle.core_typing.specs.Grounded.{so_many_types, at_top}
 pub record Basics (bs : List (ℕ × Kd)) : Type 0 where
   pub basis : (b : ℕ × Kd) → Contains basis_kinds b → basic_kind bs b.0 ≡ Some b.1
   pub bools : basic_kind bs bool_name ≡ Some types
+  pub options : basic_kind bs option_name ≡ Some (to types types)
 
 pub int_kind : {G : Scope} → Basics G.basics → Kinded G int_type types
 int_kind h = of_basic (h.basis (int_name, types) (0, omega arith, refl))
@@ -50,6 +51,24 @@ ord_kind h t = of_app (of_basic (h.basis (ord_name, to types types) (7, omega ar
 
 num_kind : {G : Scope} {t : Cn} → Basics G.basics → Kinded G t types → Kinded G (num_of t) types
 num_kind h t = of_app (of_basic (h.basis (num_name, to types types) (8, omega arith, refl))) t
+
+option_kind : {G : Scope} {t : Cn} → Basics G.basics → Kinded G t types → Kinded G (option_of t) types
+option_kind h t = of_app (of_basic h.options) t
+
+query_kind : {G : Scope} {ts es : Cn} → Basics G.basics → Kinded G ts (row_of (row_of types)) → Kinded G es (row_of types) → Kinded G (query_of ts es) types
+query_kind h ts es = of_app (of_app (of_basic (h.basis (sql_query_name, to (row_of (row_of types)) (to (row_of types) types)) (10, omega arith, refl))) ts) es
+
+dml_kind : {G : Scope} → Basics G.basics → Kinded G dml_type types
+dml_kind h = of_basic (h.basis (dml_name, types) (12, omega arith, refl))
+
+sequence_kind : {G : Scope} → Basics G.basics → Kinded G sequence_type types
+sequence_kind h = of_basic (h.basis (sql_sequence_name, types) (13, omega arith, refl))
+
+cookie_kind : {G : Scope} {t : Cn} → Basics G.basics → Kinded G t types → Kinded G (cookie_of t) types
+cookie_kind h t = of_app (of_basic (h.basis (http_cookie_name, to types types) (14, omega arith, refl))) t
+
+injectable_kind : {G : Scope} {t : Cn} → Basics G.basics → Kinded G t types → Kinded G (injectable_of t) types
+injectable_kind h t = of_app (of_basic (h.basis (sql_injectable_name, to types types) (15, omega arith, refl))) t
 
 pub no_types_kind : {G : Scope} → Kinded G no_types (row_of types)
 no_types_kind = of_row no_fields tt
@@ -98,6 +117,35 @@ join_kind h =
     (of_arrow (xml_kind h (of_var refl) (of_cat (of_var refl) (of_var refl) (by_one_before (var 2) (var 1) refl refl (itself 2) (itself 1))) (of_var refl))
     (xml_kind h (of_var refl) (of_var refl) (of_cat (of_var refl) (of_var refl) (by_newest (var 1) (var 0) refl refl (itself 1) (itself 0)))))))))))
 
+-- a mapped row has the pieces of the row
+by_newest_turned : {gs : Guards} {a b p q : Cn} (c d : Cn) → pieces a ≡ p ∷ [] → pieces b ≡ q ∷ [] → HasPiece c q → HasPiece d p → Apart ((c, d) ∷ gs) a b
+by_newest_turned {gs} {a} {b} {p} {q} c d i j h k =
+    apart same same (subst (λ xs. AllSeparated ((c, d) ∷ gs) xs (pieces b)) (sym i) (subst (λ ys. AllSeparated ((c, d) ∷ gs) (p ∷ []) ys) (sym j)
+    (All-cons (λ x. All (Separated ((c, d) ∷ gs) x) (q ∷ [])) p [] (All-cons (Separated ((c, d) ∷ gs) p) q [] (by_guard_turned (0, omega arith, refl) h k) (All-nil (Separated ((c, d) ∷ gs) p))) (All-nil (λ x. All (Separated ((c, d) ∷ gs) x) (q ∷ []))))))
+
+-- a row of a query's results, where the newest guard separates its two rows
+result_kind : {G : Scope} {i j : ℕ} {gs : Guards} → G.guards ≡ (var i, var j) ∷ gs → Kinded G (var i) (row_of (row_of types)) → Kinded G (var j) (row_of types) → Kinded G (result_of (var i) (var j)) types
+result_kind {G} {i} {j} {gs} e ts es =
+    of_record (of_cat es (of_app (of_app of_map (of_lambda (of_record (of_var refl)))) ts)
+    (subst (λ hs. Apart hs (var j) (mapped (row_of types) types (lambda (row_of types) (record_of (var 0))) (var i))) (sym e) (by_newest_turned (var i) (var j) refl refl (itself i) (itself j))))
+
+results_kind : {G : Scope} {t : Cn} → Kinded (assume (var 1) (var 0) (bind (row_of types) (bind (row_of (row_of types)) G))) t types → Kinded G (for_results t) types
+results_kind h = of_poly (of_poly (of_guarded (of_var refl) (of_var refl) h))
+
+plain_kind : {G : Scope} {c : Cn} → Basics G.basics → Kinded G c (row_of units) → Kinded G (plain_xml c) types
+plain_kind h c = xml_kind h c no_types_kind no_types_kind
+
+-- the two fields of a cookie that is set
+setting_apart : (gs : Guards) → Apart gs (name value_name) (name secure_name)
+setting_apart gs =
+    let differ : value_name ≢ secure_name = λ e. omega (arith, e) in
+    apart same same (All-cons (λ x. All (Separated gs x) (name secure_name ∷ [])) (name value_name) [] (All-cons (Separated gs (name value_name)) (name secure_name) [] (names_differ differ) (All-nil (Separated gs (name value_name)))) (All-nil (λ x. All (Separated gs x) (name secure_name ∷ []))))
+
+setting_kind : {G : Scope} {t : Cn} → Basics G.basics → Kinded G t types → Kinded G (setting_of t) types
+setting_kind {G} h t =
+    of_record (of_row (a_field of_name t (a_field of_name (bool_kind h) no_fields))
+    (All-cons (Apart G.guards (name value_name)) (name secure_name) [] (setting_apart G.guards) (All-nil (Apart G.guards (name value_name))), (All-nil (Apart G.guards (name secure_name)), tt)))
+
 pub basis_kind : {G : Scope} → Basics G.basics → (b : BasisName) → Kinded G (basis_type b) types
 basis_kind h Return = of_poly (of_arrow (of_var refl) (transaction_kind h (of_var refl)))
 basis_kind h Bind = of_poly (of_poly (of_arrow (transaction_kind h (of_var refl)) (of_arrow (of_arrow (of_var refl) (transaction_kind h (of_var refl))) (transaction_kind h (of_var refl)))))
@@ -121,6 +169,23 @@ basis_kind h Txt = of_poly (of_poly (of_poly (of_arrow (show_kind h (of_var refl
 basis_kind h Cdata = of_poly (of_poly (of_arrow (string_kind h) (xml_kind h (of_var refl) (of_var refl) no_types_kind)))
 basis_kind h Join = join_kind h
 basis_kind h Bless = of_arrow (string_kind h) (url_kind h)
+basis_kind h Query =
+    results_kind (of_poly (of_arrow (query_kind h (of_var refl) (of_var refl))
+    (of_arrow (of_arrow (result_kind refl (of_var refl) (of_var refl)) (of_arrow (of_var refl) (transaction_kind h (of_var refl))))
+    (of_arrow (of_var refl) (transaction_kind h (of_var refl))))))
+basis_kind h QueryX =
+    results_kind (of_poly (of_arrow (query_kind h (of_var refl) (of_var refl))
+    (of_arrow (of_arrow (result_kind refl (of_var refl) (of_var refl)) (plain_kind h (of_var refl)))
+    (transaction_kind h (plain_kind h (of_var refl))))))
+basis_kind h OneRow =
+    results_kind (of_arrow (query_kind h (of_var refl) (of_var refl)) (transaction_kind h (result_kind refl (of_var refl) (of_var refl))))
+basis_kind h OneOrNoRows =
+    results_kind (of_arrow (query_kind h (of_var refl) (of_var refl)) (transaction_kind h (option_kind h (result_kind refl (of_var refl) (of_var refl)))))
+basis_kind h Dml = of_arrow (dml_kind h) (transaction_kind h unit_kind)
+basis_kind h Nextval = of_arrow (sequence_kind h) (transaction_kind h (int_kind h))
+basis_kind h GetCookie = of_poly (of_arrow (cookie_kind h (of_var refl)) (transaction_kind h (option_kind h (of_var refl))))
+basis_kind h SetCookie = of_poly (of_arrow (cookie_kind h (of_var refl)) (of_arrow (setting_kind h (of_var refl)) (transaction_kind h unit_kind)))
+basis_kind h ClearCookie = of_poly (of_arrow (cookie_kind h (of_var refl)) (transaction_kind h unit_kind))
 basis_kind h NumInt = num_kind h (int_kind h)
 basis_kind h ShowInt = show_kind h (int_kind h)
 basis_kind h ShowString = show_kind h (string_kind h)
@@ -131,6 +196,9 @@ basis_kind h EqBool = eq_kind h (bool_kind h)
 basis_kind h OrdInt = ord_kind h (int_kind h)
 basis_kind h OrdString = ord_kind h (string_kind h)
 basis_kind h OrdBool = ord_kind h (bool_kind h)
+basis_kind h SqlInt = injectable_kind h (int_kind h)
+basis_kind h SqlString = injectable_kind h (string_kind h)
+basis_kind h SqlBool = injectable_kind h (bool_kind h)
 
 -- one field whose name is a variable
 one_field_kind : {G : Scope} {i : ℕ} {v : Cn} {k : Kd} → Kinded G (var i) names → Kinded G v k → Kinded G (row k (pair (var i) v no_pairs)) (row_of k)

@@ -8,7 +8,7 @@ use Rattle.con_terms.specs.Equal.{same}
 use Rattle.con_terms.specs.Kinded.{Kinded, of_basic, of_app, of_row, of_name, of_unit, no_fields, a_field}
 use Rattle.table_rows.specs.Shapes.{Sh, a_record, a_data, parameter, shape, part, no_parts, no_shapes, Cases}
 use Rattle.link_router.specs.Calls.{Ent, Rts}
-use Rattle.core_terms.specs.Names.{html_context}
+use Rattle.core_terms.specs.Names.{list_name, html_context, first_name, second_name, false_name, true_name, none_name, some_name, nil_name, cons_name}
 use Rattle.core_terms.specs.Types.{transaction_of, no_types, type_row, at_types, page_type, unit_row}
 use Rattle.core_terms.specs.declared.basis.BasisName.TheVariants.{Return}
 use Rattle.core_terms.specs.Trees.{basis, call, no_items, with_term, Cd, Dt}
@@ -43,8 +43,8 @@ page_kinded = of_app (of_app (of_app (of_basic refl) html_kinded) no_types_kinde
 names_differ : TextsDiffer one_page.names
 names_differ = differ_by_test one_page.names refl
 
-located : (v : Value) → Contains (values one_page.decls) v → (v.place.file < 1) × (v.name < 27)
-located v (zero, h, e) = subst (λ (x : Value). (x.place.file < 1) × (x.name < 27)) e (omega arith, omega arith)
+located : (v : Value) → Contains (values one_page.decls) v → (v.place.file < 1) × (v.name < 36)
+located v (zero, h, e) = subst (λ (x : Value). (x.place.file < 1) × (x.name < 36)) e (omega arith, omega arith)
 located v (suc k, h, e) = absurd (omega (arith, h))
 
 distinct : Distinct (type_symbols one_page)
@@ -58,13 +58,13 @@ no_folders : FoldersDiffer one_page.folders
 no_folders i j f g h k e = absurd (no_folder_there i f h)
 
 -- its names have texts
-html_names : NamesThere 27 (unit_row (html_context ∷ []))
+html_names : NamesThere 36 (unit_row (html_context ∷ []))
 html_names = (omega arith, tt, tt)
 
-page_names : NamesThere 27 (transaction_of page_type)
+page_names : NamesThere 36 (transaction_of page_type)
 page_names = (tt, (((tt, html_names), tt), tt))
 
-term_fits : FormFits 27 (call (said (basis Return)) (with_added page_type (with_term empty_body no_items)))
+term_fits : FormFits 36 (call (said (basis Return)) (with_added page_type (with_term empty_body no_items)))
 term_fits = (tt, (page_names.1, ((tt, html_names, tt, tt, tt), tt)))
 
 exported : All (λ i. i < 1) (0 ∷ [])
@@ -108,16 +108,16 @@ main_is_entry = by_export refl (0, omega arith, refl) (no_argument is_page)
 
 -- the constructors of bool, option and list
 abbrev pub bool_constructors : List Cd
-bool_constructors = constructor_of 20 None ∷ constructor_of 21 None ∷ []
+bool_constructors = constructor_of false_name None ∷ constructor_of true_name None ∷ []
 
 abbrev pub option_constructors : List Cd
-option_constructors = constructor_of 22 None ∷ constructor_of 23 (Some (var 0)) ∷ []
+option_constructors = constructor_of none_name None ∷ constructor_of some_name (Some (var 0)) ∷ []
 
 abbrev pub cons_type : Cn
-cons_type = record_of (type_row (pair (name 18) (var 0) (pair (name 19) (at_types (basic 5) (var 0 ∷ [])) no_pairs)))
+cons_type = record_of (type_row (pair (name first_name) (var 0) (pair (name second_name) (at_types (basic list_name) (var 0 ∷ [])) no_pairs)))
 
 abbrev pub list_constructors : List Cd
-list_constructors = constructor_of 24 None ∷ constructor_of 25 (Some cons_type) ∷ []
+list_constructors = constructor_of nil_name None ∷ constructor_of cons_name (Some cons_type) ∷ []
 
 -- their cases
 abbrev pub texts : List (List ℕ)

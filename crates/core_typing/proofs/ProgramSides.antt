@@ -1,13 +1,13 @@
 -- The sides of a mismatch that a program tells differ.
-use Rattle.std.proofs.Common.{◌≡◌, ◌≢◌, ℕ, Bool, true, false, ◌==◌, List, [], ◌∷◌, ◌++◌, map, Option, Some, if◌then◌else◌, refl, sym, ◌∙◌}
-use Rattle.std.specs.List.{AllByRecursion}
+use Rattle.std.proofs.Common.{◌≡◌, ◌≢◌, ℕ, Bool, true, false, ◌==◌, List, [], ◌∷◌, ◌++◌, map, drop, Option, Some, if◌then◌else◌, refl, sym, ◌∙◌}
+use Rattle.std.specs.List.{All, AllByRecursion}
 use Rattle.std.proofs.lemmas.Bool.Decides.{Decides-eqb}
 use Rattle.std.proofs.lemmas.List.Elements.{recursion_from_All}
 use Rattle.con_terms.specs.Trees.{Kd, Cn}
-use Rattle.core_terms.specs.Names.{int_name, string_name, url_name, transaction_name, xml_name, show_name, eq_name, ord_name, num_name}
+use Rattle.core_terms.specs.Names.{int_name, string_name}
 use Rattle.core_terms.specs.Trees.{Ex, De, Dt, Pg}
 use Rattle.core_terms.specs.Datatypes.{datatype_of, basis_datatypes}
-use Rattle.core_typing.specs.Scopes.{Sc, datatype_kinds, folder_kinds}
+use Rattle.core_typing.specs.Scopes.{Sc, basis_kinds, datatype_kinds, folder_kinds}
 use Rattle.core_typing.specs.Declarations.{datatypes, value_types, named_values, scope_with}
 use Rattle.core_typing.specs.Accepts.{Formed}
 use Rattle.core_typing.specs.Entries.{all_datatypes}
@@ -51,20 +51,31 @@ fresh_at x (past_datatype {ds = ds} {b = b} {rest = rest} a) h =
     let k = fresh_behind x ds (b ∷ datatypes rest) h in
     fresh_at x a (fresh_both x (ds ++ b ∷ []) (datatypes rest) (fresh_both x ds (b ∷ []) (fresh_front x ds (b ∷ datatypes rest) h) (k.0, tt)) k.1)
 
+-- what is different from all of a list is different from all behind its first part
+behind_these : (x : ℕ) (bs rest : List (ℕ × Kd)) → AllByRecursion (λ y. x ≢ y) (map (λ (b : ℕ × Kd). b.0) (bs ++ rest)) → AllByRecursion (λ y. x ≢ y) (map (λ (b : ℕ × Kd). b.0) rest)
+behind_these x [] rest h = h
+behind_these x (b ∷ bs) rest h = behind_these x bs rest h.1
+
 fresh_from : (x : ℕ) (ds : List Dt) (fs : List (ℕ × Kd)) → AllByRecursion (λ y. x ≢ y) (map (λ (b : ℕ × Kd). b.0) (datatype_kinds ds ++ fs)) → Fresh x ds
 fresh_from x [] fs h = tt
 fresh_from x (d ∷ ds) fs h = (h.0, fresh_from x ds fs h.1)
 
+-- the symbols of datatypes and folders of a program
+abbrev own_kinds : Pg → List (ℕ × Kd)
+own_kinds p = datatype_kinds (all_datatypes p) ++ folder_kinds p.folders
+
+-- a type of the basis that no datatype of a program is
+not_declared : (p : Pg) (x : ℕ) (bs : List (ℕ × Kd)) → All (λ y. x ≢ y) (map (λ (b : ℕ × Kd). b.0) (bs ++ own_kinds p)) → Fresh x (all_datatypes p)
+not_declared p x bs h =
+    fresh_from x (all_datatypes p) (folder_kinds p.folders)
+    (behind_these x bs (own_kinds p) (recursion_from_All (λ y. x ≢ y) (map (λ (b : ℕ × Kd). b.0) (bs ++ own_kinds p)) h))
+
 -- a program that is built has a datatype of neither symbol
 no_int : (p : Pg) → Formed p → Fresh int_name (all_datatypes p)
-no_int p w =
-    fresh_from int_name (all_datatypes p) (folder_kinds p.folders)
-    (recursion_from_All (λ y. int_name ≢ y) (string_name ∷ url_name ∷ transaction_name ∷ xml_name ∷ show_name ∷ eq_name ∷ ord_name ∷ num_name ∷ map (λ (b : ℕ × Kd). b.0) (datatype_kinds (all_datatypes p) ++ folder_kinds p.folders)) w.symbols.0).1.1.1.1.1.1.1.1
+no_int p w = not_declared p int_name (drop 1 basis_kinds) w.symbols.0
 
 no_string : (p : Pg) → Formed p → Fresh string_name (all_datatypes p)
-no_string p w =
-    fresh_from string_name (all_datatypes p) (folder_kinds p.folders)
-    (recursion_from_All (λ y. string_name ≢ y) (url_name ∷ transaction_name ∷ xml_name ∷ show_name ∷ eq_name ∷ ord_name ∷ num_name ∷ map (λ (b : ℕ × Kd). b.0) (datatype_kinds (all_datatypes p) ++ folder_kinds p.folders)) w.symbols.1.0).1.1.1.1.1.1.1
+no_string p w = not_declared p string_name (drop 2 basis_kinds) w.symbols.1.0
 
 still_fresh : {tops : List Cn} {ds : List Dt} {d : De} (x : ℕ) (p : Pg) → DeclAt [] [] p.decls tops ds d → Fresh x (all_datatypes p) → Fresh x (basis_datatypes ++ ds)
 still_fresh {ds = ds} x p a h = fresh_both x basis_datatypes ds (fresh_front x basis_datatypes (datatypes p.decls) h) (fresh_at x a (fresh_behind x basis_datatypes (datatypes p.decls) h))

@@ -6,6 +6,7 @@ use Rattle.std.proofs.lemmas.Option.{slice_get-map, slice_get-get_or, get_or_fro
 use Rattle.con_terms.specs.Trees.{Cn}
 use Rattle.table_rows.specs.Shapes.{Sh, Cases}
 use Rattle.row_normal.proofs.Options.{option_map_from}
+use Rattle.core_terms.specs.Names.{false_name, true_name, none_name, some_name, nil_name, cons_name}
 use Rattle.link_router.specs.Calls.{Ent, Rts, Cl, is_post}
 use Rattle.link_router.specs.Links.{Route}
 use Rattle.link_router.specs.RouteLaws.{IsPlain, AreNamed}
@@ -173,9 +174,9 @@ decl_distinct (a_datatype h s r) zero d e = subst (λ (x : Dt). Distinct (names_
 decl_distinct (a_datatype h s r) (suc k) d e = decl_distinct r k d e
 
 all_distinct : (p : Pg) → Accepts p → (k : ℕ) (d : Dt) → slice_get (all_datatypes p) k ≡ Some d → Distinct (names_in d)
-all_distinct p a zero d e = subst (λ (x : Dt). Distinct (names_in x)) (some_is e) (distinct_by_test (20 ∷ 21 ∷ []) refl)
-all_distinct p a (suc zero) d e = subst (λ (x : Dt). Distinct (names_in x)) (some_is e) (distinct_by_test (22 ∷ 23 ∷ []) refl)
-all_distinct p a (suc (suc zero)) d e = subst (λ (x : Dt). Distinct (names_in x)) (some_is e) (distinct_by_test (24 ∷ 25 ∷ []) refl)
+all_distinct p a zero d e = subst (λ (x : Dt). Distinct (names_in x)) (some_is e) (distinct_by_test (false_name ∷ true_name ∷ []) refl)
+all_distinct p a (suc zero) d e = subst (λ (x : Dt). Distinct (names_in x)) (some_is e) (distinct_by_test (none_name ∷ some_name ∷ []) refl)
+all_distinct p a (suc (suc zero)) d e = subst (λ (x : Dt). Distinct (names_in x)) (some_is e) (distinct_by_test (nil_name ∷ cons_name ∷ []) refl)
 all_distinct p a (suc (suc (suc k))) d e = decl_distinct a.typed k d e
 
 record ShapeOfOne (names : List (List ℕ)) (all ds : List Dt) (cs : Cases) : Type 0 where

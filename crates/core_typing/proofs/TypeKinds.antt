@@ -106,7 +106,7 @@ element_kind (of_input s h k i as' x) = x
 element_kind (of_button s h k as' a x) = x
 
 basics : {G : Sc} → HasTypes G → Basics G.kinds.basics
-basics h = record { basis = h.grounded.basis; bools = h.grounded.bools }
+basics h = record { basis = h.grounded.basis; bools = h.grounded.bools; options = h.grounded.options }
 
 mutual
   pub type_kind : {G : Sc} {e : Ex} {t : Cn} → HasTypes G → Typed kinds_asked G e t → Kinded G.kinds t types

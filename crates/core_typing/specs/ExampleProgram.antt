@@ -20,7 +20,7 @@ abbrev pub one_page : Pg
 one_page = record {
   names = basis_texts ++ codes "main" ∷ [];
   modules = codes "Main" ∷ [];
-  decls = val (byte 0) 26 true (transaction_of page_type) (said (call (said (basis Return)) (with_added page_type (with_term empty_body no_items)))) ∷ [];
+  decls = val (byte 0) 35 true (transaction_of page_type) (said (call (said (basis Return)) (with_added page_type (with_term empty_body no_items)))) ∷ [];
   rules = [];
   foreigns = [];
   folders = [];

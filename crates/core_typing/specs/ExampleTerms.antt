@@ -28,13 +28,13 @@ with_added c is = with_con (byte 0) true c is
 
 -- the names A and B behind those of the basis, and x, n and r for what binders bind
 abbrev pub a_name : ℕ
-a_name = 26
+a_name = 35
 
 abbrev pub b_name : ℕ
-b_name = 27
+b_name = 36
 
 abbrev pub x_name : ℕ
-x_name = 28
+x_name = 37
 
 abbrev pub example_texts : List (List ℕ)
 example_texts = basis_texts ++ codes "A" ∷ codes "B" ∷ codes "x" ∷ []

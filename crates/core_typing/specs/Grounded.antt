@@ -3,7 +3,7 @@ use Rattle.std.specs.Prelude.{◌≡◌, ℕ, zero, suc, List, [], ◌∷◌, So
 use Rattle.std.specs.List.{Contains}
 use Rattle.con_terms.specs.Trees.{Kd, types, row_of, to, Cn}
 use Rattle.con_terms.specs.Kinded.{Scope, basic_kind, Kinded}
-use Rattle.core_terms.specs.Names.{bool_name}
+use Rattle.core_terms.specs.Names.{bool_name, option_name}
 use Rattle.core_terms.specs.Trees.{Cd, Dt}
 use Rattle.core_terms.specs.Types.{type_taking}
 use Rattle.core_terms.specs.Datatypes.{datatype_of}
@@ -28,6 +28,7 @@ pub record Grounded (G : Sc) : Type 0 where
   pub folders : (k : Kd) (s : ℕ) → Contains G.folders (k, s) → basic_kind G.kinds.basics s ≡ Some (to (row_of k) types)
   pub basis : (b : ℕ × Kd) → Contains basis_kinds b → basic_kind G.kinds.basics b.0 ≡ Some b.1
   pub bools : basic_kind G.kinds.basics bool_name ≡ Some types
+  pub options : basic_kind G.kinds.basics option_name ≡ Some (to types types)
 
 -- and each variable's type is a type
 pub record HasTypes (G : Sc) : Type 0 where

@@ -6,7 +6,7 @@ use Rattle.con_terms.specs.Substitution.{shift}
 use Rattle.con_terms.specs.Kinded.{Scope, bind, assume}
 use Rattle.row_normal.specs.NormalForm.{nf}
 use Rattle.kind_rules.specs.Compared.{comparison_units}
-use Rattle.core_terms.specs.Names.{int_name, string_name, url_name, transaction_name, xml_name, show_name, eq_name, ord_name, num_name}
+use Rattle.core_terms.specs.Names.{int_name, string_name, url_name, transaction_name, xml_name, show_name, eq_name, ord_name, num_name, sql_table_name, sql_query_name, sql_exp_name, dml_name, sql_sequence_name, http_cookie_name, sql_injectable_name}
 use Rattle.core_terms.specs.Types.{type_taking}
 use Rattle.core_terms.specs.Trees.{Dt}
 use Rattle.con_terms.specs.Trees.{units}
@@ -37,7 +37,12 @@ abbrev pub basis_kinds : List (ℕ × Kd)
 basis_kinds =
     (int_name, types) ∷ (string_name, types) ∷ (url_name, types) ∷ (transaction_name, to types types)
     ∷ (xml_name, to (row_of units) (to (row_of types) (to (row_of types) types)))
-    ∷ (show_name, to types types) ∷ (eq_name, to types types) ∷ (ord_name, to types types) ∷ (num_name, to types types) ∷ []
+    ∷ (show_name, to types types) ∷ (eq_name, to types types) ∷ (ord_name, to types types) ∷ (num_name, to types types)
+    ∷ (sql_table_name, to (row_of types) types)
+    ∷ (sql_query_name, to (row_of (row_of types)) (to (row_of types) types))
+    ∷ (sql_exp_name, to (row_of (row_of types)) (to types types))
+    ∷ (dml_name, types) ∷ (sql_sequence_name, types) ∷ (http_cookie_name, to types types)
+    ∷ (sql_injectable_name, to types types) ∷ []
 
 -- the kinds of datatypes and folders
 abbrev pub datatype_kinds : List Dt → List (ℕ × Kd)
