@@ -4,6 +4,7 @@ pub mod Strip
 pub mod Names
 pub mod Types
 pub mod Basis
+pub mod BasisTexts
 pub mod Datatypes
 pub mod Markup
 pub mod Leaves

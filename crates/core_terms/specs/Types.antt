@@ -3,7 +3,7 @@
 use Rattle.std.specs.Prelude.{ℕ, zero, suc, true, List, [], ◌∷◌}
 use Rattle.con_terms.specs.Trees.{Kd, types, units, row_of, to, Cn, var, basic, arrow, poly, record_of, app, lambda, unit_con, name, row, cat, Prs, no_pairs, pair}
 use Rattle.con_terms.specs.Equal.{mapped}
-use Rattle.core_terms.specs.Names.{int_name, string_name, url_name, bool_name, option_name, transaction_name, xml_name, show_name, eq_name, ord_name, num_name, sql_table_name, sql_query_name, sql_exp_name, dml_name, sql_sequence_name, http_cookie_name, sql_injectable_name, html_context, body_context, value_name, secure_name}
+use Rattle.core_terms.specs.Names.{int_name, string_name, url_name, bool_name, option_name, transaction_name, xml_name, show_name, eq_name, ord_name, num_name, sql_table_name, sql_query_name, sql_exp_name, dml_name, sql_sequence_name, http_cookie_name, sql_injectable_name, html_context, body_context, table_context, tr_context, value_name, secure_name}
 
 abbrev pub int_type : Cn
 int_type = basic int_name
@@ -70,6 +70,14 @@ page_type = xml_of (unit_row (html_context ∷ [])) no_types no_types
 -- xbody = xml [Body] [] []
 abbrev pub body_type : Cn
 body_type = xml_of (unit_row (body_context ∷ [])) no_types no_types
+
+-- xtable = xml [Table] [] []
+abbrev pub table_type : Cn
+table_type = xml_of (unit_row (table_context ∷ [])) no_types no_types
+
+-- xtr = xml [Tr] [] []
+abbrev pub tr_type : Cn
+tr_type = xml_of (unit_row (tr_context ∷ [])) no_types no_types
 
 -- sql_table r: a table whose rows have these columns
 abbrev pub table_of : Cn → Cn

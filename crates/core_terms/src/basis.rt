@@ -1,4 +1,4 @@
-//! The names of the values that every program has.
+//! The names of the values and types that every program has.
 
 /// A value of the basis. Its type stands in `specs/Basis.antt`.
 #[derive(Clone, Copy, Debug, PartialEq, Eq)]
@@ -47,4 +47,34 @@ pub enum BasisName {
     SqlInt,
     SqlString,
     SqlBool,
+}
+
+/// A type of the basis by its name. What it stands for and its kind stand in `specs/BasisTexts.antt`.
+/// Beside these there is a type `folder` for each kind of rows.
+#[derive(Clone, Copy, Debug, PartialEq, Eq)]
+pub enum TypeName {
+    Int,
+    String,
+    Url,
+    Unit,
+    Bool,
+    Option,
+    List,
+    Transaction,
+    Xml,
+    Page,
+    Xbody,
+    Xtable,
+    Xtr,
+    Show,
+    Eq,
+    Ord,
+    Num,
+    SqlTable,
+    SqlQuery,
+    SqlExp,
+    Dml,
+    SqlSequence,
+    HttpCookie,
+    SqlInjectable,
 }

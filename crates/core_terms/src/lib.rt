@@ -13,7 +13,7 @@ pub mod pat;
 pub mod program;
 pub mod program_lists;
 
-pub use basis::BasisName;
+pub use basis::{BasisName, TypeName};
 pub use decl::{Constructor, Constructors, Datatype, Decl, Decls};
 pub use exp::{
     Attribute, Attributes, Branch, Branches, Element, Exp, Exps, Field, Fields, Form, Item, Items,

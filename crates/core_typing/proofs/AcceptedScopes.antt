@@ -300,6 +300,7 @@ has_types p tops ds u g = record { grounded = grounded; locals = λ i t e. cc }
       basis = λ b c. found_there (names_at p ds) u b.0 b.1 (Contains-append_left basis_kinds (datatype_kinds (basis_datatypes ++ ds) ++ folder_kinds p.folders) b c);
       bools = found_there (names_at p ds) u bool_name types (middle (bool_name, types) (0, omega arith, refl));
       options = found_there (names_at p ds) u option_name (to types types) (middle (option_name, to types types) (1, omega arith, refl));
+      lists = found_there (names_at p ds) u list_name (to types types) (middle (list_name, to types types) (2, omega arith, refl));
     }
 
 datatypes_of : (front rest : List De) → datatypes (front ++ rest) ≡ datatypes front ++ datatypes rest

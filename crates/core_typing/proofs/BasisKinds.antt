@@ -8,8 +8,11 @@ use Rattle.con_terms.specs.Apart.{Guards, pieces, HasPiece, has_piece, Separated
 use Rattle.con_terms.specs.Kinded.{Scope, bind, assume, basic_kind, Kinded, of_var, of_basic, of_arrow, of_poly, of_guarded, of_record, of_app, of_lambda, of_unit, of_name, of_row, of_cat, of_map, no_fields, a_field}
 use Rattle.core_terms.specs.declared.basis.BasisName.{BasisName}
 use Rattle.core_terms.specs.declared.basis.BasisName.TheVariants.{Return, Bind, Error, Not, Strcat, Plus, Minus, Times, Divide, Mod, Neg, Eq, Ne, Lt, Le, Show, MkShow, MkEq, Txt, Cdata, Join, Bless, Query, QueryX, OneRow, OneOrNoRows, Dml, Nextval, GetCookie, SetCookie, ClearCookie, NumInt, ShowInt, ShowString, ShowBool, EqInt, EqString, EqBool, OrdInt, OrdString, OrdBool, SqlInt, SqlString, SqlBool}
-use Rattle.core_terms.specs.Names.{int_name, string_name, url_name, bool_name, option_name, transaction_name, xml_name, show_name, eq_name, ord_name, num_name, sql_query_name, dml_name, sql_sequence_name, http_cookie_name, sql_injectable_name, body_context, value_name, secure_name}
+use Rattle.core_terms.specs.Names.{int_name, string_name, url_name, bool_name, option_name, transaction_name, xml_name, show_name, eq_name, ord_name, num_name, sql_table_name, sql_query_name, sql_exp_name, dml_name, sql_sequence_name, http_cookie_name, sql_injectable_name, html_context, body_context, table_context, tr_context, value_name, secure_name}
 use Rattle.core_terms.specs.Types.{int_type, string_type, url_type, bool_type, no_types, unit_type, body_type, unit_row, transaction_of, option_of, show_of, eq_of, ord_of, num_of, xml_of, query_of, dml_type, sequence_type, cookie_of, injectable_of, result_of, setting_of, at_types, for_types, type_taking}
+use Rattle.core_terms.specs.declared.basis.TypeName.{TypeName}
+use Rattle.core_terms.specs.declared.basis.TypeName.TheVariants as type_name
+use Rattle.core_terms.specs.BasisTexts.{named_type, named_kind}
 use Rattle.core_terms.specs.Basis.{basis_type, two_numbers, two_alike, two_ordered, for_results, plain_xml, fold_step_type, fold_type}
 use Rattle.core_terms.specs.Datatypes.{parameters_of, own_type, constructor_type}
 use Rattle.core_terms.specs.Trees.{Cd, Dt}
@@ -21,6 +24,7 @@ pub record Basics (bs : List (ℕ × Kd)) : Type 0 where
   pub basis : (b : ℕ × Kd) → Contains basis_kinds b → basic_kind bs b.0 ≡ Some b.1
   pub bools : basic_kind bs bool_name ≡ Some types
   pub options : basic_kind bs option_name ≡ Some (to types types)
+  pub lists : basic_kind bs list_name ≡ Some (to types types)
 
 pub int_kind : {G : Scope} → Basics G.basics → Kinded G int_type types
 int_kind h = of_basic (h.basis (int_name, types) (0, omega arith, refl))
@@ -199,6 +203,37 @@ basis_kind h OrdBool = ord_kind h (bool_kind h)
 basis_kind h SqlInt = injectable_kind h (int_kind h)
 basis_kind h SqlString = injectable_kind h (string_kind h)
 basis_kind h SqlBool = injectable_kind h (bool_kind h)
+
+-- the contexts of `xtable` and `xtr`
+context_kind : {G : Scope} (n : ℕ) → Basics G.basics → Kinded G (xml_of (unit_row (n ∷ [])) no_types no_types) types
+context_kind n h = xml_kind h (one_context n) no_types_kind no_types_kind
+
+-- what the names of types stand for
+pub named_kinded : {G : Scope} → Basics G.basics → (t : TypeName) → Kinded G (named_type t) (named_kind t)
+named_kinded h type_name.Int = int_kind h
+named_kinded h type_name.String = string_kind h
+named_kinded h type_name.Url = url_kind h
+named_kinded h type_name.Unit = unit_kind
+named_kinded h type_name.Bool = bool_kind h
+named_kinded h type_name.Option = of_basic h.options
+named_kinded h type_name.List = of_basic h.lists
+named_kinded h type_name.Transaction = of_basic (h.basis (transaction_name, to types types) (3, omega arith, refl))
+named_kinded h type_name.Xml = of_basic (h.basis (xml_name, to (row_of units) (to (row_of types) (to (row_of types) types))) (4, omega arith, refl))
+named_kinded h type_name.Page = context_kind html_context h
+named_kinded h type_name.Xbody = context_kind body_context h
+named_kinded h type_name.Xtable = context_kind table_context h
+named_kinded h type_name.Xtr = context_kind tr_context h
+named_kinded h type_name.Show = of_basic (h.basis (show_name, to types types) (5, omega arith, refl))
+named_kinded h type_name.Eq = of_basic (h.basis (eq_name, to types types) (6, omega arith, refl))
+named_kinded h type_name.Ord = of_basic (h.basis (ord_name, to types types) (7, omega arith, refl))
+named_kinded h type_name.Num = of_basic (h.basis (num_name, to types types) (8, omega arith, refl))
+named_kinded h type_name.SqlTable = of_basic (h.basis (sql_table_name, to (row_of types) types) (9, omega arith, refl))
+named_kinded h type_name.SqlQuery = of_basic (h.basis (sql_query_name, to (row_of (row_of types)) (to (row_of types) types)) (10, omega arith, refl))
+named_kinded h type_name.SqlExp = of_basic (h.basis (sql_exp_name, to (row_of (row_of types)) (to types types)) (11, omega arith, refl))
+named_kinded h type_name.Dml = dml_kind h
+named_kinded h type_name.SqlSequence = sequence_kind h
+named_kinded h type_name.HttpCookie = of_basic (h.basis (http_cookie_name, to types types) (14, omega arith, refl))
+named_kinded h type_name.SqlInjectable = of_basic (h.basis (sql_injectable_name, to types types) (15, omega arith, refl))
 
 -- one field whose name is a variable
 one_field_kind : {G : Scope} {i : ℕ} {v : Cn} {k : Kd} → Kinded G (var i) names → Kinded G v k → Kinded G (row k (pair (var i) v no_pairs)) (row_of k)

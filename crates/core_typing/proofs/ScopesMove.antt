@@ -41,13 +41,13 @@ pub record Walked (I : Scope → Cn → Kd → Type 0) (f : ℕ → ℕ → Cn) 
 
 -- what is grounded stays so under variables, constructor variables and guards
 pub grounded_under : {G : Sc} (ts : List Cn) → Grounded G → Grounded (under ts G)
-grounded_under ts g = record { tops = g.tops; held = g.held; datatypes = g.datatypes; folders = g.folders; basis = g.basis; bools = g.bools; options = g.options }
+grounded_under ts g = record { tops = g.tops; held = g.held; datatypes = g.datatypes; folders = g.folders; basis = g.basis; bools = g.bools; options = g.options; lists = g.lists }
 
 pub grounded_con : {G : Sc} (k : Kd) → Grounded G → Grounded (under_con k G)
-grounded_con k g = record { tops = g.tops; held = g.held; datatypes = g.datatypes; folders = g.folders; basis = g.basis; bools = g.bools; options = g.options }
+grounded_con k g = record { tops = g.tops; held = g.held; datatypes = g.datatypes; folders = g.folders; basis = g.basis; bools = g.bools; options = g.options; lists = g.lists }
 
 pub grounded_guard : {G : Sc} (c d : Cn) → Grounded G → Grounded (under_guard c d G)
-grounded_guard c d g = record { tops = g.tops; held = g.held; datatypes = g.datatypes; folders = g.folders; basis = g.basis; bools = g.bools; options = g.options }
+grounded_guard c d g = record { tops = g.tops; held = g.held; datatypes = g.datatypes; folders = g.folders; basis = g.basis; bools = g.bools; options = g.options; lists = g.lists }
 
 pub walked_under : {I : Scope → Cn → Kd → Type 0} {f : ℕ → ℕ → Cn} {n : ℕ} {G H : Sc} (ts : List Cn) → Walked I f n G H → Walked I f n (under ts G) (under (map (λ t. replaced f t n) ts) H)
 walked_under {I} {f} {n} {G} {H} ts w = record {
@@ -99,7 +99,7 @@ pub top_closed : {f : ℕ → ℕ → Cn} {G : Sc} → Walks f → Grounded G �
 top_closed w g n i t e = closed w n (omega arith) (g.tops i t e)
 
 pub basis_closed : {f : ℕ → ℕ → Cn} {G : Sc} → Walks f → Grounded G → (n : ℕ) (b : BasisName) → replaced f (basis_type b) n ≡ basis_type b
-basis_closed {G = G} w g n b = closed {G = at_top 0 G.kinds.basics} w n (omega arith) (basis_kind (record { basis = g.basis; bools = g.bools; options = g.options }) b)
+basis_closed {G = G} w g n b = closed {G = at_top 0 G.kinds.basics} w n (omega arith) (basis_kind (record { basis = g.basis; bools = g.bools; options = g.options; lists = g.lists }) b)
 
 pub fold_closed : {f : ℕ → ℕ → Cn} {G : Sc} → Walks f → Grounded G → (n : ℕ) (k : Kd) (s : ℕ) → Contains G.folders (k, s) → replaced f (fold_type k s) n ≡ fold_type k s
 fold_closed {G = G} w g n k s h = closed {G = at_top 0 G.kinds.basics} w n (omega arith) (fold_kind (g.folders k s h))

@@ -105,8 +105,8 @@ element_kind (of_form s h e k as' xs x) = x
 element_kind (of_input s h k i as' x) = x
 element_kind (of_button s h k as' a x) = x
 
-basics : {G : Sc} → HasTypes G → Basics G.kinds.basics
-basics h = record { basis = h.grounded.basis; bools = h.grounded.bools; options = h.grounded.options }
+pub basics : {G : Sc} → HasTypes G → Basics G.kinds.basics
+basics h = record { basis = h.grounded.basis; bools = h.grounded.bools; options = h.grounded.options; lists = h.grounded.lists }
 
 mutual
   pub type_kind : {G : Sc} {e : Ex} {t : Cn} → HasTypes G → Typed kinds_asked G e t → Kinded G.kinds t types

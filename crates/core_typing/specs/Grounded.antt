@@ -3,7 +3,7 @@ use Rattle.std.specs.Prelude.{◌≡◌, ℕ, zero, suc, List, [], ◌∷◌, So
 use Rattle.std.specs.List.{Contains}
 use Rattle.con_terms.specs.Trees.{Kd, types, row_of, to, Cn}
 use Rattle.con_terms.specs.Kinded.{Scope, basic_kind, Kinded}
-use Rattle.core_terms.specs.Names.{bool_name, option_name}
+use Rattle.core_terms.specs.Names.{bool_name, option_name, list_name}
 use Rattle.core_terms.specs.Trees.{Cd, Dt}
 use Rattle.core_terms.specs.Types.{type_taking}
 use Rattle.core_terms.specs.Datatypes.{datatype_of}
@@ -29,6 +29,7 @@ pub record Grounded (G : Sc) : Type 0 where
   pub basis : (b : ℕ × Kd) → Contains basis_kinds b → basic_kind G.kinds.basics b.0 ≡ Some b.1
   pub bools : basic_kind G.kinds.basics bool_name ≡ Some types
   pub options : basic_kind G.kinds.basics option_name ≡ Some (to types types)
+  pub lists : basic_kind G.kinds.basics list_name ≡ Some (to types types)
 
 -- and each variable's type is a type
 pub record HasTypes (G : Sc) : Type 0 where

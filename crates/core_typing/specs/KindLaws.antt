@@ -1,12 +1,18 @@
 -- Laws of kinds: what stays when constructors are seen from under further binders and guards, and when a constructor is put for a binder.
 use Rattle.std.specs.Prelude.{◌≡◌, ℕ, List, ◌∷◌, ◌++◌, Some, length, map}
 use Rattle.std.specs.List.{Contains}
-use Rattle.con_terms.specs.Trees.{Kd, Cn}
+use Rattle.con_terms.specs.Trees.{Kd, types, Cn}
 use Rattle.con_terms.specs.Substitution.{shift, subst, subst_at}
 use Rattle.con_terms.specs.Apart.{Guards}
 use Rattle.con_terms.specs.Kinded.{Scope, bind, Kinded}
 use Rattle.row_normal.specs.Contracted.{contracted}
 use Rattle.row_normal.specs.Steps.{step, reduced}
+use Rattle.core_terms.specs.declared.basis.BasisName.{BasisName}
+use Rattle.core_terms.specs.declared.basis.TypeName.{TypeName}
+use Rattle.core_terms.specs.Basis.{basis_type}
+use Rattle.core_terms.specs.BasisTexts.{named_type, named_kind}
+use Rattle.core_typing.specs.Scopes.{Sc}
+use Rattle.core_typing.specs.Grounded.{HasTypes}
 
 -- guards seen from under so many more binders, from a number on
 abbrev pub guards_shifted : ℕ → ℕ → Guards → Guards
@@ -45,6 +51,11 @@ ConstructorsSubstitute = (inner outer : List Kd) (l : Kd) (gs : Guards) (basics 
 -- So one may be put for the innermost binder.
 abbrev pub KindsSubstitute : Type 0
 KindsSubstitute = (G : Scope) (l : Kd) (a c : Cn) (k : Kd) → Kinded G a l → Kinded (bind l G) c k → Kinded G (subst c a) k
+
+-- The values of the basis have types, and the types of the basis have their kinds, in every scope of an accepted program.
+abbrev pub BasisHasKinds : Type 0
+BasisHasKinds = (G : Sc) → HasTypes G
+    → ((b : BasisName) → Kinded G.kinds (basis_type b) types) × ((t : TypeName) → Kinded G.kinds (named_type t) (named_kind t))
 
 -- A step keeps a constructor's kind.
 abbrev pub StepsKeepKinds : Type 0

@@ -2,7 +2,7 @@
 ghost use Rattle.core_typing.specs.TypingLaws.{AskingLess, EqualTypesExchange, FoundAskingLess, FoundIsTyped, OneListIsBound, OneTypeIsFound, PlainNodesFillNothing, TypingsStay};
 ghost use Rattle.core_typing.specs.FaultLaws.{FoundOrFails, FoundTellsNothing, ProgramSidesDiffer, ToldSidesDiffer};
 ghost use Rattle.core_typing.specs.FoundProgram.{FoundIsAccepted, FoundIsClear};
-ghost use Rattle.core_typing.specs.KindLaws.{ConstructorsSubstitute, EtaKeepsKinds, KindsStayUnderBinders, KindsStayUnderGuards, KindsSubstitute, ReducedKeepsKinds, StepsKeepKinds};
+ghost use Rattle.core_typing.specs.KindLaws.{BasisHasKinds, ConstructorsSubstitute, EtaKeepsKinds, KindsStayUnderBinders, KindsStayUnderGuards, KindsSubstitute, ReducedKeepsKinds, StepsKeepKinds};
 ghost use Rattle.core_typing.specs.ConLaws.{AcceptedScopesHaveTypes, ConstructorsSubstituteInTerms, TypesHaveKindType, TypingsStayUnderBinders, TypingsSubstitute};
 ghost use Rattle.core_typing.specs.SiteLaws.{OneCallOfAccepted};
 
@@ -116,6 +116,11 @@ pub fn types_have_kind_type()
 /// The scopes of an accepted program have types for what stands at the top.
 pub fn accepted_scopes_have_types()
     ensures { AcceptedScopesHaveTypes }
+{}
+
+/// The values of the basis have types, and its types their kinds.
+pub fn the_basis_has_its_kinds()
+    ensures { BasisHasKinds }
 {}
 
 /// A step of reduction keeps a constructor's kind.
