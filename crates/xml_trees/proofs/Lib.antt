@@ -4,3 +4,4 @@ pub mod Normal
 pub mod Pieces
 pub mod Spelling
 pub mod Unique
+pub mod SimpleTags

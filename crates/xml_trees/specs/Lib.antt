@@ -6,3 +6,4 @@ pub mod Written
 pub mod Grammar
 pub mod PieceText
 pub mod Example
+pub mod SourceNames

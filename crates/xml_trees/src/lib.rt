@@ -5,6 +5,7 @@ pub mod attrs;
 pub mod laws;
 pub mod name;
 pub mod page;
+pub mod source_name;
 pub mod tag;
 #[cfg(test)]
 mod tests;
@@ -12,4 +13,5 @@ mod tests;
 pub use attrs::{Attr, Attrs};
 pub use name::Name;
 pub use page::{Page, Piece};
+pub use source_name::{AttrName, TagName};
 pub use tag::Tag;

@@ -1,9 +1,10 @@
 //! The tags of a page.
-ghost use Rattle.std.specs.Prelude.{◌≡◌, ◌≢◌, IfOk, IfSome, IfNone, IsTrue};
+ghost use Rattle.std.specs.Prelude.{◌≡◌, ◌≢◌, IfOk, IfSome, IfNone, IsTrue, option_and_then};
 ghost use Rattle.xml_trees.specs.Names.{name_bytes};
+ghost use Rattle.xml_trees.specs.SourceNames.{simple_tag, tag_named};
 ghost use Rattle.xml_trees.specs.Tags.{name_of, is_simple};
 
-use crate::Name;
+use crate::{Name, TagName};
 use std::alloc::{AllocError, Global};
 use table_rows::Text;
 
@@ -48,31 +49,13 @@ pub enum Tag {
 impl Tag {
     /// The tag of this name among those that take text and one another: paragraphs, headings, lists and
     /// their like, `br` and `hr`.
+    #[tactic(auto, using(crate::proofs::SimpleTags::simple_has, crate::proofs::SimpleTags::simple_named))]
     pub fn simple(name: &str) -> Option<Tag>
+        ensures named { result ≡ option_and_then simple_tag (tag_named name.now) }
         ensures some { IfSome result (λ tag. IsTrue (is_simple tag) × (name_bytes (name_of tag) ≡ name.now)) }
         ensures none { IfNone result ((tag : Tag) → IsTrue (is_simple tag) → name_bytes (name_of tag) ≢ name.now) }
     {
-        match name {
-            "p" => Some(Tag::P),
-            "div" => Some(Tag::Div),
-            "span" => Some(Tag::Span),
-            "b" => Some(Tag::B),
-            "i" => Some(Tag::I),
-            "em" => Some(Tag::Em),
-            "strong" => Some(Tag::Strong),
-            "h1" => Some(Tag::H1),
-            "h2" => Some(Tag::H2),
-            "h3" => Some(Tag::H3),
-            "h4" => Some(Tag::H4),
-            "ul" => Some(Tag::Ul),
-            "ol" => Some(Tag::Ol),
-            "li" => Some(Tag::Li),
-            "code" => Some(Tag::Code),
-            "blockquote" => Some(Tag::Blockquote),
-            "br" => Some(Tag::Br),
-            "hr" => Some(Tag::Hr),
-            _ => None,
-        }
+        TagName::named(name)?.simple()
     }
 
     /// The name that the tag is written with. Every kind of input is an `input`.

@@ -1,7 +1,7 @@
 //! Pages that are built piece by piece.
 ghost use Rattle.xml_trees.specs.Trees.{built, IsWhole};
 
-use crate::{Attr, Attrs, Name, Page, Piece, Tag};
+use crate::{Attr, AttrName, Attrs, Name, Page, Piece, Tag, TagName};
 use std::alloc::{AllocError, Global};
 use table_rows::Text;
 
@@ -54,5 +54,19 @@ fn simple_tags(rt: HostRuntime) -> Result<(), AllocError> {
     for other in ["h5", "P", "", "body", "head", "form", "input", "a", "brr"] {
         assert!(rt; Tag::simple(other).is_none(), "at {other}");
     }
+    assert!(rt; TagName::named("checkbox") == Some(TagName::Checkbox));
+    assert!(rt; TagName::named("input").is_none() && AttrName::named("method").is_none());
+    assert_eq!(rt;
+        TagName::Textbox
+            .tag(Text::of(rt.alloc(), "f")?)
+            .name()
+            .as_str(),
+        "input"
+    );
+    assert!(rt;
+        AttrName::Border
+            .with_number(3)
+            .is_some_and(|attr| attr.name().as_str() == "border")
+    );
     Ok(())
 }
