@@ -1,0 +1,62 @@
+//! The type of `fold`.
+ghost use Rattle.std.specs.Prelude.{◌≡◌, false, true, IfOk};
+ghost use Rattle.con_terms.specs.Trees as tree;
+ghost use Rattle.con_terms.specs.View.{con_tree, kind_tree};
+ghost use Rattle.core_terms.specs.Basis as meant;
+
+use crate::forms::{
+    applied, arrow, arrow_kind, empty_row, field_row, guarded, joined, poly, row_kind,
+};
+use con_terms::con::Con;
+use con_terms::kind::{Kind, copy_kind};
+use con_terms::symbol::Sym;
+use std::alloc::{AllocError, Global};
+
+/// `{kind}`, of a copy of the kind
+fn rows_of(alloc: Global, kind: &Kind) -> Result<Kind, AllocError>
+    ensures { IfOk result (λ new. kind_tree new ≡ tree.row_of (kind_tree kind.now)) }
+{
+    let kind = copy_kind(alloc, kind)?;
+    row_kind(alloc, kind)
+}
+
+/// `tf r -> tf ([nm = v] ++ r)`, where these have the numbers 3, 0, 2, 1
+fn visit(alloc: Global, kind: &Kind) -> Result<Con, AllocError>
+    ensures { IfOk result (λ new. con_tree new ≡ tree.arrow (tree.app (tree.var 3) (tree.var 0))
+        (tree.app (tree.var 3) (tree.cat (tree.row (kind_tree kind.now) (tree.pair (tree.var 2) (tree.var 1) tree.no_pairs)) (tree.var 0)))) }
+{
+    let before = applied(alloc, Con::Var(3), Con::Var(0))?;
+    let field = field_row(alloc, copy_kind(alloc, kind)?, Con::Var(2), Con::Var(1))?;
+    let row = joined(alloc, field, Con::Var(0))?;
+    let after = applied(alloc, Con::Var(3), row)?;
+    arrow(alloc, before, after)
+}
+
+/// `nm :: Name -> v :: kind -> r :: {kind} -> [[nm] ~ r] => tf r -> tf ([nm = v] ++ r)`, with `tf`
+/// outside
+pub fn fold_step_type(alloc: Global, kind: &Kind) -> Result<Con, AllocError>
+    ensures { IfOk result (λ new. con_tree new ≡ meant.fold_step_type (kind_tree kind.now)) }
+{
+    let label = field_row(alloc, Kind::Units, Con::Var(2), Con::UnitCon)?;
+    let body = guarded(alloc, label, Con::Var(0), visit(alloc, kind)?)?;
+    let body = poly(alloc, false, rows_of(alloc, kind)?, body)?;
+    let body = poly(alloc, false, copy_kind(alloc, kind)?, body)?;
+    poly(alloc, false, Kind::Names, body)
+}
+
+/// The type of `fold` over rows of kind `{kind}`, where the symbol is that of `folder` at the kind:
+/// `tf :: ({kind} -> Type) -> step -> tf [] -> r ::: {kind} -> folder r -> tf r`
+pub fn fold_type(alloc: Global, kind: &Kind, folder: Sym) -> Result<Con, AllocError>
+    ensures { IfOk result (λ new. con_tree new ≡ meant.fold_type (kind_tree kind.now) folder.number) }
+{
+    let walked = applied(alloc, Con::Basic(folder), Con::Var(0))?;
+    let whole = applied(alloc, Con::Var(1), Con::Var(0))?;
+    let body = arrow(alloc, walked, whole)?;
+    let body = poly(alloc, true, rows_of(alloc, kind)?, body)?;
+    let empty = empty_row(alloc, copy_kind(alloc, kind)?)?;
+    let start = applied(alloc, Con::Var(0), empty)?;
+    let body = arrow(alloc, start, body)?;
+    let body = arrow(alloc, fold_step_type(alloc, kind)?, body)?;
+    let result_kind = arrow_kind(alloc, rows_of(alloc, kind)?, Kind::Types)?;
+    poly(alloc, false, result_kind, body)
+}
