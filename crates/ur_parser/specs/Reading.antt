@@ -8,11 +8,12 @@ use Rattle.surface_tree.specs.declared.kind.Kind.{Kind}
 use Rattle.surface_tree.specs.declared.kind.Kind.TheVariants.{KeywordFun, LowerName, LeftParenthesis, RightParenthesis, Colon, EqualSign, XmlOpen, TagOpen, TagClose, GreaterThan, TagSelfClose, XmlClose, AttributeName, TextRun, StringLiteral, LeftBrace, RightBrace, LeftBracket, RightBracket}
 use Rattle.xml_trees.specs.declared.name.Name.{Name}
 use Rattle.xml_trees.specs.declared.tag.Tag.{Tag}
-use Rattle.xml_trees.specs.declared.tag.Tag.TheVariants.{P, Div, Span, B, I, Em, Strong, H1, H2, H3, H4, Ul, Ol, Li, Code, Blockquote, Br, Hr}
 use Rattle.xml_trees.specs.declared.attrs.Attr.{Attr}
 use Rattle.xml_trees.specs.declared.attrs.Attr.TheVariants.{Title as Titled}
 use Rattle.xml_trees.specs.Names.{name_bytes}
 use Rattle.xml_trees.specs.Tags.{name_of}
+use Rattle.xml_trees.specs.SourceNames.{simple_tag}
+use Rattle.xml_trees.specs.SourceNames as source
 use Rattle.xml_trees.specs.Trees.{Nothing, Words, Built, Whole, Within, built_and, ended}
 use Rattle.ur_parser.specs.declared.fault.SmallFault.{SmallFault}
 use Rattle.ur_parser.specs.declared.fault.SmallFault.TheVariants.{NotBuilt, Memory}
@@ -114,26 +115,7 @@ attributes (Some text) = Titled text ∷ []
 
 -- the tag that is read where this name stands
 abbrev pub tag_named : List ℕ → Option Tag
-tag_named name =
-    if bytes_eq name (codes "p") then Some P
-    else if bytes_eq name (codes "div") then Some Div
-    else if bytes_eq name (codes "span") then Some Span
-    else if bytes_eq name (codes "b") then Some B
-    else if bytes_eq name (codes "i") then Some I
-    else if bytes_eq name (codes "em") then Some Em
-    else if bytes_eq name (codes "strong") then Some Strong
-    else if bytes_eq name (codes "h1") then Some H1
-    else if bytes_eq name (codes "h2") then Some H2
-    else if bytes_eq name (codes "h3") then Some H3
-    else if bytes_eq name (codes "h4") then Some H4
-    else if bytes_eq name (codes "ul") then Some Ul
-    else if bytes_eq name (codes "ol") then Some Ol
-    else if bytes_eq name (codes "li") then Some Li
-    else if bytes_eq name (codes "code") then Some Code
-    else if bytes_eq name (codes "blockquote") then Some Blockquote
-    else if bytes_eq name (codes "br") then Some Br
-    else if bytes_eq name (codes "hr") then Some Hr
-    else None
+tag_named name = option_and_then simple_tag (source.tag_named name)
 
 -- where the reading of nodes stands: the names of the open elements, the innermost first, the page so far, and the words that are left
 abbrev pub Step : Type 0

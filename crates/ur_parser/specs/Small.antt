@@ -1,11 +1,11 @@
 -- The small form: one module whose `main` returns one page.
-use Rattle.std.specs.Prelude.{◌≡◌, ◌≤◌, ℕ, suc, max, Bool, true, false, IsTrue, List, [], ◌∷◌, codes}
+use Rattle.std.specs.Prelude.{◌≡◌, ◌≤◌, ℕ, suc, max, Bool, not, ◌&&◌, IsTrue, List, [], ◌∷◌, codes}
 use Rattle.surface_tree.specs.declared.kind.Kind.TheVariants.{KeywordFun, LowerName, LeftParenthesis, RightParenthesis, Colon, EqualSign, XmlOpen, XmlClose, TagOpen, TagClose, GreaterThan, TagSelfClose, AttributeName, TextRun, StringLiteral, LeftBrace, RightBrace, LeftBracket, RightBracket}
 use Rattle.surface_tree.specs.declared.token.Token.{Token}
 use Rattle.xml_trees.specs.declared.tag.Tag.{Tag}
-use Rattle.xml_trees.specs.declared.tag.Tag.TheVariants.{Body, P, Div, Span, B, I, Em, Strong, H1, H2, H3, H4, Ul, Ol, Li, Code, Blockquote, Br, Hr}
-use Rattle.xml_trees.specs.Names.{name_bytes}
-use Rattle.xml_trees.specs.Tags.{name_of}
+use Rattle.xml_trees.specs.declared.tag.Tag.TheVariants.{Body}
+use Rattle.xml_trees.specs.Names.{name_bytes, is_void_name}
+use Rattle.xml_trees.specs.Tags.{name_of, is_simple}
 use Rattle.ur_parser.specs.Words.{Word, Sign, Holding, words_of}
 
 -- the attribute of an element: none, a title that is a string, or one that is a string in braces
@@ -30,29 +30,11 @@ pub data Module : Type 0 where
 
 -- the sixteen tags that hold nodes
 abbrev pub is_element : Tag → Bool
-is_element P = true
-is_element Div = true
-is_element Span = true
-is_element B = true
-is_element I = true
-is_element Em = true
-is_element Strong = true
-is_element H1 = true
-is_element H2 = true
-is_element H3 = true
-is_element H4 = true
-is_element Ul = true
-is_element Ol = true
-is_element Li = true
-is_element Code = true
-is_element Blockquote = true
-is_element _ = false
+is_element tag = is_simple tag && not (is_void_name (name_of tag))
 
 -- the two tags that never hold anything, and have no attribute
 abbrev pub is_void : Tag → Bool
-is_void Br = true
-is_void Hr = true
-is_void _ = false
+is_void tag = is_simple tag && is_void_name (name_of tag)
 
 -- each tag stands where it may
 abbrev pub HasTags : Nodes → Type 0

@@ -9,28 +9,7 @@ use xml_trees::Tag;
 pub fn tag_named(name: &str) -> Option<Tag>
     ensures { result ≡ tag_named name.now }
 {
-    let tag = match name {
-        "p" => Tag::P,
-        "div" => Tag::Div,
-        "span" => Tag::Span,
-        "b" => Tag::B,
-        "i" => Tag::I,
-        "em" => Tag::Em,
-        "strong" => Tag::Strong,
-        "h1" => Tag::H1,
-        "h2" => Tag::H2,
-        "h3" => Tag::H3,
-        "h4" => Tag::H4,
-        "ul" => Tag::Ul,
-        "ol" => Tag::Ol,
-        "li" => Tag::Li,
-        "code" => Tag::Code,
-        "blockquote" => Tag::Blockquote,
-        "br" => Tag::Br,
-        "hr" => Tag::Hr,
-        _ => return None,
-    };
-    Some(tag)
+    Tag::simple(name)
 }
 
 /// Whether a tag never holds anything.
