@@ -1,3 +1,4 @@
+pub mod Held
 pub mod Wires
 pub mod Shapes
 pub mod View
