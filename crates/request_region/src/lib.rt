@@ -1,0 +1,8 @@
+//! The memory of one request: texts, lists and values that all go at once.
+#![tactic(auto)]
+
+mod region;
+#[cfg(test)]
+mod tests;
+
+pub use region::Region;
