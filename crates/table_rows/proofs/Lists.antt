@@ -40,7 +40,7 @@ pub wire_at : (ws : Wires) (x : Wire) (i : ℕ) → x ≡ get_or (out-Wires ws).
 wire_at ws x i e h = ap (λ l. slice_get l i) (wires_listed ws) ∙ got_at (out-Wires ws).items.items i x h ∙ ap (λ w. Some (wire_tree w)) (sym e)
 
 -- a constructor's name with what it holds
-tagged_tree : (n : List ℕ) (b : Box Wire Global) → wire_tree (Tagged n (Some b)) ≡ tagged n (wire_tree b.value)
+pub tagged_tree : (n : List ℕ) (b : Box Wire Global) → wire_tree (Tagged n (Some b)) ≡ tagged n (wire_tree b.value)
 tagged_tree n b = ap wire_tree (sym (rolls-Tagged n (Some b))) ∙ fold-roll-Wire Wr Wrs wire_step wires_step (Wire-F.Tagged n (Some b))
 
 pub tagged_same : (n m : List ℕ) (b d : Box Wire Global) → n ≡ m → wire_tree b.value ≡ wire_tree d.value → wire_tree (Tagged n (Some b)) ≡ wire_tree (Tagged m (Some d))

@@ -8,7 +8,6 @@ use std::alloc::{AllocError, Global};
 /// A value without functions: what a link, a form or a cookie can carry. Contracts see it as the
 /// tree `wire_tree`.
 #[cycle(wire)]
-#[derive(Drop)]
 pub enum Wire {
     /// A whole number.
     Int(i64),
@@ -63,6 +62,73 @@ impl Wires {
         ensures { slice_get (wire_list (wires_tree self.now)) i ≡ Some (wire_tree result.now) }
     {
         &self.items[i]
+    }
+}
+
+impl Wire {
+    ghost use Rattle.std.specs.Prelude.{◌≤◌, ◌+◌, map, IfSome};
+    ghost use Rattle.table_rows.specs.Weights.{weight, weights, around_weight};
+    ghost use Rattle.table_rows.specs.View.{wire_tree};
+
+    /// The fields of the record that stands in a value behind constructors alone. All else is let go.
+    fn into_fields(mut self) -> Option<Vec<Wire>>
+        ensures { IfSome result (λ fields. weights (map wire_tree fields.items) + 2 ≤ weight (wire_tree self)) }
+    {
+        loop {
+            match self {
+                Wire::Int(_) => return None,
+                Wire::Words(_) => return None,
+                Wire::Unit => return None,
+                Wire::Rec(fields) => return Some(fields.items),
+                Wire::Tagged(_name, held) => match held {
+                    None => return None,
+                    Some(inner) => self = Box::into_inner(inner),
+                },
+            }
+        }
+    }
+
+    /// A record of these fields, or nothing where there are none.
+    fn holding(fields: Option<Vec<Wire>>) -> Wire
+        ensures { weight (wire_tree result) ≤ around_weight fields + 2 }
+    {
+        match fields {
+            Some(items) => Wire::Rec(Wires { items }),
+            None => Wire::Unit,
+        }
+    }
+}
+
+impl Drop for Wire {
+    /// Lets go of a value however deep it is, with neither recursion nor memory: a list of fields that is being
+    /// emptied keeps the list around it in the place of the field that was taken from it last.
+    fn drop(self) {
+        let Some(mut current) = self.into_fields() else {
+            return;
+        };
+        let mut around: Option<Vec<Wire>> = None;
+        'upwards: loop {
+            'downwards: while let Some(field) = current.pop() {
+                if let Some(fields) = field.into_fields() {
+                    match current.push(Wire::holding(around)) {
+                        Ok(()) => {}
+                        Err(_) => unreachable!(),
+                    }
+                    around = Some(current);
+                    current = fields;
+                }
+            }
+            current.destroy_empty();
+            let Some(mut outer) = around else {
+                return;
+            };
+            let Some(outermost) = outer.pop() else {
+                outer.destroy_empty();
+                return;
+            };
+            around = outermost.into_fields();
+            current = outer;
+        }
     }
 }
 
