@@ -4,5 +4,4 @@ pub mod Tables
 pub mod Walks
 pub mod Equals
 pub mod SameKinds
-pub mod Copied
 pub mod SymbolTexts

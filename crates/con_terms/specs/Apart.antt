@@ -10,14 +10,16 @@ abbrev pub Guards : Type 0
 Guards = List (Cn × Cn)
 
 abbrev mutual
-  -- the pieces of a row: those of a literal's names, those of both sides of ++, those of the row that is mapped, or the row itself
+  -- the pieces of a row: those of a literal's names, those of both sides of ++, those of the row that is mapped, or
+  -- the row itself
   pub pieces : Cn → List Cn
   pieces (row k ps) = name_pieces ps
   pieces (cat a b) = pieces a ++ pieces b
   pieces (app (app (map_of k l) f) r) = pieces r
   pieces c = c ∷ []
 
-  -- those of each name of a literal. A name is its own piece; what is no name, as it may stand there before its kind is asked, is taken apart as elsewhere
+  -- those of each name of a literal. A name is its own piece; what is no name, as it may stand there before its kind
+  -- is asked, is taken apart as elsewhere
   pub name_pieces : Prs → List Cn
   name_pieces no_pairs = []
   name_pieces (pair n v ps) = pieces n ++ name_pieces ps
@@ -31,7 +33,8 @@ both_literal _ _ = false
 pub data HasPiece : Cn → Cn → Type 0 where
   has_piece : {c d p : Cn} → Equal c d → Contains (pieces d) p → HasPiece c p
 
--- Two pieces are separated: literal names that differ, or pieces of the two sides of an assumed guard. A guard that can't hold, as
+-- Two pieces are separated: literal names that differ, or pieces of the two sides of an assumed guard. A guard that
+-- can't hold, as
 -- [A] ~ [A], separates too, so that what is apart stays apart where a constructor is put for a variable.
 pub data Separated : Guards → Cn → Cn → Type 0 where
   names_differ : {gs : Guards} {s t : ℕ} → s ≢ t → Separated gs (name s) (name t)
@@ -44,7 +47,11 @@ AllSeparated gs ps qs = All (λ p. All (Separated gs p) qs) ps
 
 -- c and d, or rows equal to them, have pieces that are all separated
 pub data Apart : Guards → Cn → Cn → Type 0 where
-  apart : {gs : Guards} {c d c' d' : Cn} → Equal c c' → Equal d d' → AllSeparated gs (pieces c') (pieces d') → Apart gs c d
+  apart : {gs : Guards} {c d c' d' : Cn}
+      → Equal c c'
+      → Equal d d'
+      → AllSeparated gs (pieces c') (pieces d')
+      → Apart gs c d
 
 -- each is apart from each later one
 abbrev pub PairwiseApart : Guards → List Cn → Type 0

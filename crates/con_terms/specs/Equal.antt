@@ -41,10 +41,12 @@ mutual
     cat_swaps : {a b : Cn} → Equal (cat a b) (cat b a)
     cat_groups : {a b c : Cn} → Equal (cat (cat a b) c) (cat a (cat b c))
     cat_unit : {k : Kd} {a : Cn} → Equal (cat (row k no_pairs) a) a
-    row_splits : {k : Kd} {n v : Cn} {ps : Prs} → Equal (row k (pair n v ps)) (cat (row k (pair n v no_pairs)) (row k ps))
+    row_splits : {k : Kd} {n v : Cn} {ps : Prs}
+        → Equal (row k (pair n v ps)) (cat (row k (pair n v no_pairs)) (row k ps))
     -- map: of [], of one field, over ++, by the identity, of a map
     map_none : {k l : Kd} {f : Cn} → Equal (mapped k l f (row k no_pairs)) (row l no_pairs)
-    map_one : {k l : Kd} {f n v : Cn} → Equal (mapped k l f (row k (pair n v no_pairs))) (row l (pair n (app f v) no_pairs))
+    map_one : {k l : Kd} {f n v : Cn}
+        → Equal (mapped k l f (row k (pair n v no_pairs))) (row l (pair n (app f v) no_pairs))
     map_cat : {k l : Kd} {f a b : Cn} → Equal (mapped k l f (cat a b)) (cat (mapped k l f a) (mapped k l f b))
     map_identity : {k : Kd} {a : Cn} → Equal (mapped k k (identity k) a) a
     map_map : {k l m : Kd} {f g a : Cn} → Equal (mapped l m f (mapped k l g a)) (mapped k m (after k f g) a)
@@ -57,4 +59,8 @@ mutual
   -- equal field by field
   pub data EqualPairs : Prs → Prs → Type 0 where
     none_pairs : EqualPairs no_pairs no_pairs
-    one_pair : {n v n' v' : Cn} {ps qs : Prs} → Equal n n' → Equal v v' → EqualPairs ps qs → EqualPairs (pair n v ps) (pair n' v' qs)
+    one_pair : {n v n' v' : Cn} {ps qs : Prs}
+        → Equal n n'
+        → Equal v v'
+        → EqualPairs ps qs
+        → EqualPairs (pair n v ps) (pair n' v' qs)

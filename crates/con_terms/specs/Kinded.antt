@@ -34,24 +34,45 @@ mutual
     of_basic : {G : Scope} {s : ℕ} {k : Kd} → basic_kind G.basics s ≡ Some k → Kinded G (basic s) k
     of_arrow : {G : Scope} {a b : Cn} → Kinded G a types → Kinded G b types → Kinded G (arrow a b) types
     of_poly : {G : Scope} {x : Bool} {k : Kd} {b : Cn} → Kinded (bind k G) b types → Kinded G (poly x k b) types
-    of_guarded : {G : Scope} {a b c : Cn} {k l : Kd} → Kinded G a (row_of k) → Kinded G b (row_of l) → Kinded (assume a b G) c types → Kinded G (guarded a b c) types
+    of_guarded : {G : Scope} {a b c : Cn} {k l : Kd}
+        → Kinded G a (row_of k)
+        → Kinded G b (row_of l)
+        → Kinded (assume a b G) c types
+        → Kinded G (guarded a b c) types
     of_record : {G : Scope} {a : Cn} → Kinded G a (row_of types) → Kinded G (record_of a) types
     of_app : {G : Scope} {f a : Cn} {k l : Kd} → Kinded G f (to k l) → Kinded G a k → Kinded G (app f a) l
     of_lambda : {G : Scope} {k l : Kd} {b : Cn} → Kinded (bind k G) b l → Kinded G (lambda k b) (to k l)
     of_unit : {G : Scope} → Kinded G unit_con units
     of_name : {G : Scope} {s : ℕ} → Kinded G (name s) names
-    of_row : {G : Scope} {k : Kd} {ps : Prs} → KindedPairs G ps k → PairwiseApart G.guards (names_of ps) → Kinded G (row k ps) (row_of k)
-    of_cat : {G : Scope} {a b : Cn} {k : Kd} → Kinded G a (row_of k) → Kinded G b (row_of k) → Apart G.guards a b → Kinded G (cat a b) (row_of k)
+    of_row : {G : Scope} {k : Kd} {ps : Prs}
+        → KindedPairs G ps k
+        → PairwiseApart G.guards (names_of ps)
+        → Kinded G (row k ps) (row_of k)
+    of_cat : {G : Scope} {a b : Cn} {k : Kd}
+        → Kinded G a (row_of k)
+        → Kinded G b (row_of k)
+        → Apart G.guards a b
+        → Kinded G (cat a b) (row_of k)
     of_map : {G : Scope} {k l : Kd} → Kinded G (map_of k l) (to (to k l) (to (row_of k) (row_of l)))
     of_tuple : {G : Scope} {cs : Cns} {ks : Kds} → KindedAll G cs ks → Kinded G (tuple cs) (tuple_of ks)
-    of_proj : {G : Scope} {c : Cn} {ks : Kds} {n : ℕ} {k : Kd} → Kinded G c (tuple_of ks) → slice_get (kind_list ks) n ≡ Some k → Kinded G (proj c n) k
+    of_proj : {G : Scope} {c : Cn} {ks : Kds} {n : ℕ} {k : Kd}
+        → Kinded G c (tuple_of ks)
+        → slice_get (kind_list ks) n ≡ Some k
+        → Kinded G (proj c n) k
 
   -- a tuple's components have these kinds
   pub data KindedAll : Scope → Cns → Kds → Type 0 where
     no_components : {G : Scope} → KindedAll G no_cons no_kinds
-    a_component : {G : Scope} {c : Cn} {cs : Cns} {k : Kd} {ks : Kds} → Kinded G c k → KindedAll G cs ks → KindedAll G (con c cs) (kind k ks)
+    a_component : {G : Scope} {c : Cn} {cs : Cns} {k : Kd} {ks : Kds}
+        → Kinded G c k
+        → KindedAll G cs ks
+        → KindedAll G (con c cs) (kind k ks)
 
   -- each field has a name, and a value of this kind
   pub data KindedPairs : Scope → Prs → Kd → Type 0 where
     no_fields : {G : Scope} {k : Kd} → KindedPairs G no_pairs k
-    a_field : {G : Scope} {n v : Cn} {ps : Prs} {k : Kd} → Kinded G n names → Kinded G v k → KindedPairs G ps k → KindedPairs G (pair n v ps) k
+    a_field : {G : Scope} {n v : Cn} {ps : Prs} {k : Kd}
+        → Kinded G n names
+        → Kinded G v k
+        → KindedPairs G ps k
+        → KindedPairs G (pair n v ps) k

@@ -9,7 +9,9 @@ use Rattle.con_terms.specs.Symbols.{Table}
 
 -- one substitution after another: the outer one goes first where it also goes into the inner argument
 abbrev pub SubstitutionsSwap : Type 0
-SubstitutionsSwap = (a b c : Cn) (d m : ℕ) → subst_at b (subst_at a c d) (m + d) ≡ subst_at (subst_at b a m) (subst_at b c (m + d + 1)) d
+SubstitutionsSwap =
+    (a b c : Cn) (d m : ℕ)
+    → subst_at b (subst_at a c d) (m + d) ≡ subst_at (subst_at b a m) (subst_at b c (m + d + 1)) d
 
 -- equal constructors stay equal under a shift
 abbrev pub ShiftKeepsEqual : Type 0
@@ -21,4 +23,6 @@ SubstitutionKeepsEqual = (a b c d : Cn) (n : ℕ) → Equal a b → Equal c d �
 
 -- two symbols of a table, whose texts are distinct, are equal exactly where their texts are
 abbrev pub SymbolsAreTexts : Type 0
-SymbolsAreTexts = (t : Table) (s n : ℕ) (x y : List ℕ) → IsDistinct bytes_eq t → slice_get t s ≡ Some x → slice_get t n ≡ Some y → s ≡ n ↔ x ≡ y
+SymbolsAreTexts =
+    (t : Table) (s n : ℕ) (x y : List ℕ) → IsDistinct bytes_eq t → slice_get t s ≡ Some x → slice_get t n ≡ Some y
+    → s ≡ n ↔ x ≡ y

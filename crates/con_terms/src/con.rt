@@ -108,7 +108,8 @@ impl Pairs {
     }
 
     pub fn push(&mut self, pair: Pair) -> Result<(), AllocError>
-        ensures grown { OnOk result (pair_list (pairs_tree self.new) ≡ pair_list (pairs_tree self.old) ++ pair_tree pair ∷ []) }
+        ensures grown { OnOk result
+            (pair_list (pairs_tree self.new) ≡ pair_list (pairs_tree self.old) ++ pair_tree pair ∷ []) }
         ensures kept { OnErr result (pair_list (pairs_tree self.new) ≡ pair_list (pairs_tree self.old)) }
     {
         Ok(self.items.push(pair)?)

@@ -42,7 +42,8 @@ impl Kinds {
     }
 
     pub fn push(&mut self, kind: Kind) -> Result<(), AllocError>
-        ensures grown { OnOk result (kind_list (kinds_tree self.new) ≡ kind_list (kinds_tree self.old) ++ kind_tree kind ∷ []) }
+        ensures grown { OnOk result
+            (kind_list (kinds_tree self.new) ≡ kind_list (kinds_tree self.old) ++ kind_tree kind ∷ []) }
         ensures kept { OnErr result (kind_list (kinds_tree self.new) ≡ kind_list (kinds_tree self.old)) }
     {
         Ok(self.items.push(kind)?)

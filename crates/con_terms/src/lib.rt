@@ -5,6 +5,7 @@
 #![tactic(auto)]
 
 pub mod con;
+pub mod copy;
 pub mod kind;
 pub mod laws;
 pub mod place;

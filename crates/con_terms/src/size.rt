@@ -64,7 +64,9 @@ fn are_small_pairs(ps: &Pairs, room: u32) -> bool
 
 #[cycle(is_small)]
 fn is_small_pair(p: &Pair, room: u32) -> bool
-    ensures { IsTrue result ↔ ((top (pair_tree p.now).0 < 2 ^ 31) × (nest (pair_tree p.now).0 ≤ room) × (top (pair_tree p.now).1 < 2 ^ 31) × (nest (pair_tree p.now).1 ≤ room)) }
+    ensures { IsTrue result
+        ↔ ((top (pair_tree p.now).0 < 2 ^ 31) × (nest (pair_tree p.now).0 ≤ room) × (top (pair_tree p.now).1 < 2 ^ 31)
+        × (nest (pair_tree p.now).1 ≤ room)) }
 {
     is_small(&p.name, room) && is_small(&p.value, room)
 }

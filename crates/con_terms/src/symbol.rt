@@ -1,10 +1,10 @@
 //! Symbols: texts by number.
 
-ghost use Rattle.std.specs.Prelude.{◌≡◌, ◌<◌, ◌≤◌, ◌^◌, [], Some, length, map, slice_get, IfOk, OnOk, OnErr};
-ghost use Rattle.std.specs.List.{IsDistinct};
+ghost use Rattle.std.specs.Prelude.{◌≡◌, ◌<◌, ◌≤◌, ◌^◌, ◌↔◌, [], None, Some, length, map, option_map, slice_get, IfOk, IfSome, IsSome, OnOk, OnErr};
+ghost use Rattle.std.specs.List.{Contains, IsDistinct};
 ghost use Rattle.std.specs.Str.{bytes_eq};
 ghost use Rattle.std.specs.String.{string_bytes};
-ghost use Rattle.con_terms.specs.Symbols.{Table, put_text};
+ghost use Rattle.con_terms.specs.Symbols.{Table, put_text, symbol_of};
 
 use indexmap::IndexSet;
 use std::alloc::{AllocError, Global};
@@ -42,20 +42,32 @@ impl SymTable {
         }
     }
 
+    /// The symbol of a text, where the table has it.
+    pub fn find(&self, text: &str) -> Option<Sym>
+        ensures exact { option_map (λ s. s.number) result ≡ symbol_of self.now text.now }
+        ensures named { IfSome result (λ s. slice_get self.now s.number ≡ Some text.now) }
+        ensures there { IsSome result ↔ Contains self.now text.now }
+    {
+        match self.texts.get_index_of(text) {
+            Some(index) => Some(Sym {
+                number: index as u32,
+            }),
+            None => None,
+        }
+    }
+
     /// The symbol of a text, which is put into the table where it isn't there yet.
     ///
-    /// A table of 2^32 - 1 texts has no room for a further one, and this counts as want of memory.
+    /// A table of 2^32 - 1 texts has no room for a further one, and this counts as want of memory. A text that is there
+    /// takes no memory, and is never refused.
     pub fn intern(&mut self, text: &str) -> Result<Sym, AllocError>
         ensures named { IfOk result (λ s. slice_get self.new s.number ≡ Some text.now) }
         ensures grown { OnOk result (self.new ≡ put_text self.old text.now) }
         ensures kept { OnErr result (self.new ≡ self.old) }
+        ensures only_new { OnErr result (symbol_of self.old text.now ≡ None) }
     {
-        match self.texts.get_index_of(text) {
-            Some(index) => {
-                return Ok(Sym {
-                    number: index as u32,
-                });
-            }
+        match self.find(text) {
+            Some(known) => return Ok(known),
             None => {}
         }
         if self.texts.len() >= u32::MAX as usize {

@@ -1,7 +1,10 @@
+//! What the clauses do not say: that memory is enough, and how deep recursion goes.
+
 use crate::con::Con;
+use crate::copy::copy_con;
 use crate::kind::{Kind, Kinds, copy_kind, same_kind};
 use crate::size::{fits, has_room};
-use crate::substitute::{copy_con, shift, subst};
+use crate::substitute::{shift, subst};
 use crate::symbol::SymTable;
 use std::alloc::{AllocError, Global};
 use std::test::Fail;
@@ -23,6 +26,8 @@ fn texts_and_symbols(rt: HostRuntime) -> Result<(), Fail> {
     assert_eq!(rt; int, again);
     assert_ne!(rt; int, string);
     assert_eq!(rt; table.count(), 2);
+    assert_eq!(rt; table.find("string"), Some(string));
+    assert_eq!(rt; table.find("strin"), None);
     Ok(())
 }
 
@@ -59,6 +64,8 @@ fn deep_constructors(rt: HostRuntime) -> Result<(), Fail> {
     let moved = shift(alloc, &c, 1, 0)?;
     assert!(rt; fits(&moved, 2000));
     assert!(rt; fits(&copy_con(alloc, &c)?, 2000));
+    let outermost = record(alloc, Con::Var(u32::MAX))?;
+    assert!(rt; !has_room(&outermost) && fits(&copy_con(alloc, &outermost)?, 2));
     Ok(())
 }
 
