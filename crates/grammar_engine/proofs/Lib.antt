@@ -2,6 +2,7 @@ pub mod Chosen
 pub mod NoneBegins
 pub mod Grown
 pub mod Grows
+pub mod EveryForm
 pub mod Ranks
 pub mod Smaller
 pub mod Decided
