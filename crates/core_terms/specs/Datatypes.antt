@@ -6,7 +6,7 @@ use Rattle.con_terms.specs.Substitution.{shift, subst}
 use Rattle.con_terms.specs.declared.place.Place.{Place}
 use Rattle.core_terms.specs.Names.{bool_name, option_name, list_name, first_name, second_name, false_name, true_name, none_name, some_name, nil_name, cons_name}
 use Rattle.core_terms.specs.Types.{at_types, type_row, for_types}
-use Rattle.core_terms.specs.Trees.{Cd, Dt}
+use Rattle.core_terms.specs.Trees.{Cd, Dt, arity}
 
 -- what isn't declared in a source stands at no place that matters
 abbrev pub nowhere : Place
@@ -15,12 +15,23 @@ nowhere = record { file = 0; at = 0 }
 abbrev pub constructor_of : ℕ → Option Cn → Cd
 constructor_of n held = record { place = nowhere; name = n; holds = held }
 
+-- a datatype that every program has: its name is its symbol
+abbrev pub basis_datatype : ℕ → List ℕ → List Cd → Dt
+basis_datatype s xs cs = record { path = []; place = nowhere; home = None; name = s; symbol = s; parameters = xs; constructors = cs }
+
+-- what the one parameter of option and of list is called
+abbrev pub type_parameter : ℕ
+type_parameter = first_name
+
 -- bool = False | True, option t = None | Some of t, list t = Nil | Cons of t * list t
 abbrev pub basis_datatypes : List Dt
 basis_datatypes =
-    record { place = nowhere; symbol = bool_name; parameters = 0; constructors = constructor_of false_name None ∷ constructor_of true_name None ∷ [] }
-    ∷ record { place = nowhere; symbol = option_name; parameters = 1; constructors = constructor_of none_name None ∷ constructor_of some_name (Some (var 0)) ∷ [] }
-    ∷ record { place = nowhere; symbol = list_name; parameters = 1; constructors = constructor_of nil_name None ∷ constructor_of cons_name (Some (record_of (type_row (pair (name first_name) (var 0) (pair (name second_name) (at_types (basic list_name) (var 0 ∷ [])) no_pairs))))) ∷ [] }
+    basis_datatype bool_name []
+    (constructor_of false_name None ∷ constructor_of true_name None ∷ [])
+    ∷ basis_datatype option_name (type_parameter ∷ [])
+    (constructor_of none_name None ∷ constructor_of some_name (Some (var 0)) ∷ [])
+    ∷ basis_datatype list_name (type_parameter ∷ [])
+    (constructor_of nil_name None ∷ constructor_of cons_name (Some (record_of (type_row (pair (name first_name) (var 0) (pair (name second_name) (at_types (basic list_name) (var 0 ∷ [])) no_pairs))))) ∷ [])
     ∷ []
 
 -- the datatype with a symbol
@@ -48,8 +59,8 @@ parameters_of (suc n) = var n ∷ parameters_of n
 
 -- a datatype at its own parameters
 abbrev pub own_type : Dt → Cn
-own_type d = at_types (basic d.symbol) (parameters_of d.parameters)
+own_type d = at_types (basic d.symbol) (parameters_of (arity d))
 
 -- a constructor's type: t ::: Type -> .. -> held -> datatype t ..
 abbrev pub constructor_type : Dt → Cd → Cn
-constructor_type d c = for_types d.parameters (elim (c.holds) [ None ↦ own_type d | Some held ↦ arrow held (own_type d) ])
+constructor_type d c = for_types (arity d) (elim (c.holds) [ None ↦ own_type d | Some held ↦ arrow held (own_type d) ])

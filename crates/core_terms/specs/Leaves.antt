@@ -1,10 +1,11 @@
 -- What whoever builds a program sees to at its leaves: each name of a field, an input or a constructor has a text, each number fits in 64 bits, and each text is UTF-8.
 -- The walks go through every constructor, pattern and term.
-use Rattle.std.specs.Prelude.{ℕ, ◌<◌, Option, Some, None, IsUtf8, FitsSigned}
+use Rattle.std.specs.Prelude.{ℕ, ◌<◌, List, Option, Some, None, IsUtf8, FitsSigned}
 use Rattle.std.specs.Int.{w64}
 use Rattle.std.specs.List.{AllByRecursion}
 use Rattle.con_terms.specs.Trees.{Cn, var, basic, arrow, poly, guarded, record_of, app, lambda, unit_con, name, row, cat, map_of, tuple, proj, Cns, no_cons, con, Prs, no_pairs, pair}
-use Rattle.core_terms.specs.Trees.{Pt, pattern, Pf, any, binds, is_number, is_text, is_bare, is_holding, has_fields, annotated, Pfs, no_pat_fields, pat_field, Ex, node, Fo, bound, top, foreign, basis, fold_over, number, text, built, fn, fn_con, fn_guard, call, let_in, case_of, ascribed, fields_of, select, concat, without, without_row, folder, element, Its, no_items, with_term, with_con, with_guard, Nms, no_named, named, Los, no_locals, local_val, local_rec, Brs, no_branches, branch, Fds, no_fields, field, El, tagged, Ats, no_attributes, attribute, Xs, no_nodes, a_node, Cd, De, val, vals, con_is, datatype}
+use Rattle.con_terms.specs.declared.place.Place.{Place}
+use Rattle.core_terms.specs.Trees.{Pt, pattern, Pf, any, binds, is_number, is_text, is_bare, is_holding, has_fields, annotated, Pfs, no_pat_fields, pat_field, Ex, node, Fo, bound, top, foreign, basis, fold_over, number, text, built, fn, fn_con, fn_guard, call, let_in, case_of, ascribed, fields_of, select, concat, without, without_row, folder, element, literal, sql, Its, no_items, with_term, with_con, with_guard, Nms, no_named, named, Los, no_locals, local_val, local_rec, Brs, no_branches, branch, Fds, no_fields, field, El, tagged, Ats, no_attributes, attribute, Xs, no_nodes, a_node, Exs, no_exps, an_exp, Th, a_table, a_sequence, a_cookie, a_given, Cd, Dt, De, val, vals, con_is, datatype, thing}
 
 abbrev mutual
   -- each literal name in a constructor is one of so many symbols
@@ -36,6 +37,10 @@ abbrev mutual
 abbrev pub NameThere : ℕ → Option Cn → Type 0
 NameThere n None = Unit {0}
 NameThere n (Some c) = NamesThere n c
+
+abbrev pub FieldNameThere : ℕ → Option (Place × Cn) → Type 0
+FieldNameThere n None = Unit {0}
+FieldNameThere n (Some x) = NamesThere n x.1
 
 abbrev mutual
   pub PatternFits : ℕ → Pt → Type 0
@@ -69,10 +74,10 @@ abbrev mutual
   FormFits n (number z) = FitsSigned w64 z
   FormFits n (text t) = IsUtf8 t
   FormFits n (built s j) = Unit {0}
-  FormFits n (fn q w t e) = PatternFits n q × NamesThere n t × TermFits n e
+  FormFits n (fn q t e) = PatternFits n q × NamesThere n t × TermFits n e
   FormFits n (fn_con x i w k e) = TermFits n e
   FormFits n (fn_guard c d e) = NamesThere n c × NamesThere n d × TermFits n e
-  FormFits n (call f is) = TermFits n f × ItemsFit n is
+  FormFits n (call f s is) = TermFits n f × ItemsFit n is
   FormFits n (let_in ls e) = LocalsFit n ls × TermFits n e
   FormFits n (case_of e p q b bs) = TermFits n e × PatternFits n q × TermFits n b × BranchesFit n bs
   FormFits n (ascribed e t) = TermFits n e × NamesThere n t
@@ -83,6 +88,8 @@ abbrev mutual
   FormFits n (without_row e c) = TermFits n e × NamesThere n c
   FormFits n (folder k ps) = FieldNamesThere n ps
   FormFits n (element m) = ElementFits n m
+  FormFits n (literal c u xs) = NamesThere n c × NamesThere n u × NodesFit n xs
+  FormFits n (sql k es) = TermsFit n es
 
   pub ItemsFit : ℕ → Its → Type 0
   ItemsFit n no_items = Unit {0}
@@ -108,7 +115,7 @@ abbrev mutual
   FieldsFit n (field p c e fs) = NamesThere n c × TermFits n e × FieldsFit n fs
 
   pub ElementFits : ℕ → El → Type 0
-  ElementFits n (tagged g x c u as' xs) = NameThere n x × NamesThere n c × NamesThere n u × AttributesFit n as' × NodesFit n xs
+  ElementFits n (tagged g x c u as' xs) = FieldNameThere n x × NamesThere n c × NamesThere n u × AttributesFit n as' × NodesFit n xs
 
   pub AttributesFit : ℕ → Ats → Type 0
   AttributesFit n no_attributes = Unit {0}
@@ -116,14 +123,33 @@ abbrev mutual
 
   pub NodesFit : ℕ → Xs → Type 0
   NodesFit n no_nodes = Unit {0}
-  NodesFit n (a_node e xs) = TermFits n e × NodesFit n xs
+  NodesFit n (a_node c e xs) = NamesThere n c × TermFits n e × NodesFit n xs
+
+  pub TermsFit : ℕ → Exs → Type 0
+  TermsFit n no_exps = Unit {0}
+  TermsFit n (an_exp e es) = TermFits n e × TermsFit n es
 
 -- a datatype's constructor has a name with a text
 abbrev pub ConstructorFits : ℕ → Cd → Type 0
 ConstructorFits n c = (c.name < n) × NameThere n c.holds
 
+-- each symbol of a list has a text
+abbrev pub AllThere : ℕ → List ℕ → Type 0
+AllThere n xs = AllByRecursion (λ x. x < n) xs
+
+-- a datatype's names have texts
+abbrev pub DatatypeFits : ℕ → Dt → Type 0
+DatatypeFits n d = AllThere n d.path × (d.name < n) × (d.symbol < n) × AllThere n d.parameters × AllByRecursion (ConstructorFits n) d.constructors
+
+abbrev pub SortFits : ℕ → Th → Type 0
+SortFits n (a_table cs) = AllByRecursion (λ c. c.1 < n) cs
+SortFits n a_sequence = Unit {0}
+SortFits n a_cookie = Unit {0}
+SortFits n a_given = Unit {0}
+
 abbrev pub DeclFits : ℕ → De → Type 0
-DeclFits n (val p x w t e) = NamesThere n t × TermFits n e
-DeclFits n (vals ns) = NamedFit n ns
-DeclFits n (con_is p x w k c) = NamesThere n c
-DeclFits n (datatype d) = AllByRecursion (ConstructorFits n) d.constructors
+DeclFits n (val path p x w t e) = NamesThere n t × TermFits n e
+DeclFits n (vals path ns) = NamedFit n ns
+DeclFits n (con_is path p x w k c) = NamesThere n c
+DeclFits n (datatype d) = DatatypeFits n d
+DeclFits n (thing path p x k t) = SortFits n k × NamesThere n t

@@ -10,3 +10,4 @@ pub mod Markup
 pub mod Leaves
 pub mod StripLaw
 pub mod Lists
+pub mod Nesting

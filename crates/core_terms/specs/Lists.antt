@@ -1,36 +1,42 @@
 -- The elements of the lists of terms and of programs, one by one.
 use Rattle.std.specs.Prelude.{ℕ, List, [], ◌∷◌, map}
 use Rattle.con_terms.specs.Trees.{Kd}
-use Rattle.core_terms.specs.Trees.{Pt, Pf, Pfs, no_pat_fields, pat_field, Ex, Fo, Its, no_items, with_term, with_con, with_guard, Nms, no_named, named, Los, no_locals, local_val, local_rec, Brs, no_branches, branch, Fds, no_fields, field, El, Ats, no_attributes, attribute, Xs, no_nodes, a_node, It, a_term, a_con, a_guard, Lo, a_val, a_rec, Cd, Ru}
-use Rattle.core_terms.specs.View.{PatFieldTree, AttributeTree, BranchTree, FieldTree, NamedTree, pat_form_step, pat_step, pat_field_step, pat_fields_step, form_step, item_step, local_step, attribute_step, attributes_step, branch_step, branches_step, element_step, exp_step, exps_step, field_step, fields_step, items_step, locals_step, named_step, named_list_step, constructor_view, rule_view, foreign_view, folder_view}
+use Rattle.con_terms.specs.declared.place.Place.{Place}
+use Rattle.core_terms.specs.Trees.{Pt, Pf, Pfs, no_pat_fields, pat_field, Ex, Fo, Its, no_items, with_term, with_con, with_guard, Nms, no_named, named, Los, no_locals, local_val, local_rec, Brs, no_branches, branch, Fds, no_fields, field, El, Ats, no_attributes, attribute, Xs, no_nodes, a_node, Exs, no_exps, an_exp, It, a_term, a_con, a_guard, Lo, a_val, a_rec, Cd, Ru}
+use Rattle.core_terms.specs.View.{PatFieldTree, AttributeTree, BranchTree, FieldTree, NamedTree, NodeTree, LiteralTree, pat_form_step, pat_step, pat_field_step, pat_fields_step, form_step, item_step, local_step, attribute_step, attributes_step, branch_step, branches_step, element_step, exp_step, exps_step, field_step, fields_step, items_step, literal_step, locals_step, named_step, named_list_step, node_step, nodes_step, constructor_view, column_view, rule_view, foreign_view, folder_view}
 use Rattle.core_terms.specs.declared.exp.Item.{Item}
 use Rattle.core_terms.specs.declared.exp.Local.{Local}
 use Rattle.core_terms.specs.declared.exp.Branch.{Branch}
 use Rattle.core_terms.specs.declared.exp.Field.{Field}
 use Rattle.core_terms.specs.declared.exp.Attribute.{Attribute}
-use Rattle.core_terms.specs.declared.exp.Form.TheFolds.{fold-Item, fold-Local, fold-Branch, fold-Field, fold-Attribute}
+use Rattle.core_terms.specs.declared.exp.Node.{Node}
+use Rattle.core_terms.specs.declared.exp.Form.TheFolds.{fold-Item, fold-Local, fold-Branch, fold-Field, fold-Attribute, fold-Node}
 use Rattle.core_terms.specs.declared.pat.PatField.{PatField}
 use Rattle.core_terms.specs.declared.pat.PatForm.TheFolds.{fold-PatField}
 use Rattle.core_terms.specs.declared.decl.Constructors.{Constructors}
+use Rattle.core_terms.specs.declared.decl.Columns.{Columns}
 use Rattle.core_terms.specs.declared.program.Rules.{Rules}
 use Rattle.core_terms.specs.declared.program.Foreigns.{Foreigns}
 use Rattle.core_terms.specs.declared.program.Folders.{Folders}
 
 -- what an element stands for
 abbrev pub item_tree : Item → It
-item_tree = fold-Item Fo It Lo AttributeTree Ats BranchTree Brs El Ex Xs FieldTree Fds Its Los NamedTree Nms form_step item_step local_step attribute_step attributes_step branch_step branches_step element_step exp_step exps_step field_step fields_step items_step locals_step named_step named_list_step
+item_tree = fold-Item Fo It Lo AttributeTree Ats BranchTree Brs El Ex Exs FieldTree Fds Its LiteralTree Los NamedTree Nms NodeTree Xs form_step item_step local_step attribute_step attributes_step branch_step branches_step element_step exp_step exps_step field_step fields_step items_step literal_step locals_step named_step named_list_step node_step nodes_step
 
 abbrev pub local_tree : Local → Lo
-local_tree = fold-Local Fo It Lo AttributeTree Ats BranchTree Brs El Ex Xs FieldTree Fds Its Los NamedTree Nms form_step item_step local_step attribute_step attributes_step branch_step branches_step element_step exp_step exps_step field_step fields_step items_step locals_step named_step named_list_step
+local_tree = fold-Local Fo It Lo AttributeTree Ats BranchTree Brs El Ex Exs FieldTree Fds Its LiteralTree Los NamedTree Nms NodeTree Xs form_step item_step local_step attribute_step attributes_step branch_step branches_step element_step exp_step exps_step field_step fields_step items_step literal_step locals_step named_step named_list_step node_step nodes_step
 
 abbrev pub branch_tree : Branch → BranchTree
-branch_tree = fold-Branch Fo It Lo AttributeTree Ats BranchTree Brs El Ex Xs FieldTree Fds Its Los NamedTree Nms form_step item_step local_step attribute_step attributes_step branch_step branches_step element_step exp_step exps_step field_step fields_step items_step locals_step named_step named_list_step
+branch_tree = fold-Branch Fo It Lo AttributeTree Ats BranchTree Brs El Ex Exs FieldTree Fds Its LiteralTree Los NamedTree Nms NodeTree Xs form_step item_step local_step attribute_step attributes_step branch_step branches_step element_step exp_step exps_step field_step fields_step items_step literal_step locals_step named_step named_list_step node_step nodes_step
 
 abbrev pub field_tree : Field → FieldTree
-field_tree = fold-Field Fo It Lo AttributeTree Ats BranchTree Brs El Ex Xs FieldTree Fds Its Los NamedTree Nms form_step item_step local_step attribute_step attributes_step branch_step branches_step element_step exp_step exps_step field_step fields_step items_step locals_step named_step named_list_step
+field_tree = fold-Field Fo It Lo AttributeTree Ats BranchTree Brs El Ex Exs FieldTree Fds Its LiteralTree Los NamedTree Nms NodeTree Xs form_step item_step local_step attribute_step attributes_step branch_step branches_step element_step exp_step exps_step field_step fields_step items_step literal_step locals_step named_step named_list_step node_step nodes_step
+
+abbrev pub node_tree : Node → NodeTree
+node_tree = fold-Node Fo It Lo AttributeTree Ats BranchTree Brs El Ex Exs FieldTree Fds Its LiteralTree Los NamedTree Nms NodeTree Xs form_step item_step local_step attribute_step attributes_step branch_step branches_step element_step exp_step exps_step field_step fields_step items_step literal_step locals_step named_step named_list_step node_step nodes_step
 
 abbrev pub attribute_tree : Attribute → AttributeTree
-attribute_tree = fold-Attribute Fo It Lo AttributeTree Ats BranchTree Brs El Ex Xs FieldTree Fds Its Los NamedTree Nms form_step item_step local_step attribute_step attributes_step branch_step branches_step element_step exp_step exps_step field_step fields_step items_step locals_step named_step named_list_step
+attribute_tree = fold-Attribute Fo It Lo AttributeTree Ats BranchTree Brs El Ex Exs FieldTree Fds Its LiteralTree Los NamedTree Nms NodeTree Xs form_step item_step local_step attribute_step attributes_step branch_step branches_step element_step exp_step exps_step field_step fields_step items_step literal_step locals_step named_step named_list_step node_step nodes_step
 
 abbrev pub pat_field_tree : PatField → PatFieldTree
 pat_field_tree = fold-PatField Pf Pt PatFieldTree Pfs pat_form_step pat_step pat_field_step pat_fields_step
@@ -63,9 +69,13 @@ abbrev pub attribute_list : Ats → List AttributeTree
 attribute_list no_attributes = []
 attribute_list (attribute p n e as') = (p, n, e) ∷ attribute_list as'
 
-abbrev pub node_list : Xs → List Ex
+abbrev pub node_list : Xs → List NodeTree
 node_list no_nodes = []
-node_list (a_node e xs) = e ∷ node_list xs
+node_list (a_node c e xs) = (c, e) ∷ node_list xs
+
+abbrev pub exp_list : Exs → List Ex
+exp_list no_exps = []
+exp_list (an_exp e es) = e ∷ exp_list es
 
 abbrev pub pat_field_list : Pfs → List PatFieldTree
 pat_field_list no_pat_fields = []
@@ -73,6 +83,9 @@ pat_field_list (pat_field p n q fs) = (p, n, q) ∷ pat_field_list fs
 
 abbrev pub constructors_view : Constructors → List Cd
 constructors_view cs = map constructor_view cs.items.items
+
+abbrev pub columns_view : Columns → List (Place × ℕ)
+columns_view cs = map column_view cs.items.items
 
 abbrev pub rules_view : Rules → List Ru
 rules_view rs = map rule_view rs.items.items

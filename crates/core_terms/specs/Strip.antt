@@ -1,9 +1,15 @@
 -- What is left of a term when what was inserted is dropped: its source, with names resolved.
--- Dropped are inserted constructors, guards, folders and instances at calls, and a call of which no item is left; types, rows and contexts that weren't written become (). A kind that isn't written at a binder is Type, and so belongs to the source.
+-- Dropped are inserted constructors, guards, folders and instances at calls, and a call of which no item is left and
+-- before whose head the source has no sigil. A constructor that was found for _ is _ again. Types, rows and contexts that
+-- weren't written become (). A kind that isn't written at a binder is Type, and so belongs to the source.
 use Rattle.std.specs.Prelude.{Bool, true, false}
 use Rattle.con_terms.specs.Trees.{Kd, types, Cn, unit_con}
 use Rattle.con_terms.specs.declared.place.Place.{Place}
-use Rattle.core_terms.specs.Trees.{Pt, pattern, Pf, any, binds, is_number, is_text, is_bare, is_holding, has_fields, annotated, Pfs, no_pat_fields, pat_field, Ex, node, Fo, bound, top, foreign, basis, fold_over, number, text, built, fn, fn_con, fn_guard, call, let_in, case_of, ascribed, fields_of, select, concat, without, without_row, folder, element, Its, no_items, with_term, with_con, with_guard, Nms, no_named, named, Los, no_locals, local_val, local_rec, Brs, no_branches, branch, Fds, no_fields, field, El, tagged, Ats, no_attributes, attribute, Xs, no_nodes, a_node, De, val, vals, con_is, datatype}
+use Rattle.core_terms.specs.declared.exp.Sigil.{Sigil}
+use Rattle.core_terms.specs.declared.exp.Sigil.TheVariants.{Plain}
+use Rattle.core_terms.specs.declared.exp.ConOrigin.{ConOrigin}
+use Rattle.core_terms.specs.declared.exp.ConOrigin.TheVariants.{Written, Inserted, Wild}
+use Rattle.core_terms.specs.Trees.{Pt, pattern, Pf, any, binds, is_number, is_text, is_bare, is_holding, has_fields, annotated, Pfs, no_pat_fields, pat_field, Ex, node, Fo, bound, top, foreign, basis, fold_over, number, text, built, fn, fn_con, fn_guard, call, let_in, case_of, ascribed, fields_of, select, concat, without, without_row, folder, element, literal, sql, Its, no_items, with_term, with_con, with_guard, Nms, no_named, named, Los, no_locals, local_val, local_rec, Brs, no_branches, branch, Fds, no_fields, field, El, tagged, Ats, no_attributes, attribute, Xs, no_nodes, a_node, Exs, no_exps, an_exp, De, val, vals, con_is, datatype, thing}
 
 -- a type where it was written
 abbrev pub if_written : Bool → Cn → Cn
@@ -34,9 +40,10 @@ abbrev mutual
   strip_pattern_fields (pat_field p n q fs) = pat_field p n (strip_pattern q) (strip_pattern_fields fs)
 
 -- an item that was written, before the others
-abbrev pub keep_con : Place → Bool → Cn → Its → Its
-keep_con p true c is = is
-keep_con p false c is = with_con p false c is
+abbrev pub keep_con : Place → ConOrigin → Cn → Its → Its
+keep_con p Inserted c is = is
+keep_con p Written c is = with_con p Written c is
+keep_con p Wild c is = with_con p Wild unit_con is
 
 abbrev pub keep_guard : Place → Bool → Its → Its
 keep_guard p true is = is
@@ -51,10 +58,10 @@ keep_term false e is = with_term e is
 abbrev pub was_added : Ex → Bool
 was_added (node p a f) = a
 
--- what is left of a call: its head alone where no item is left
-abbrev pub call_left : Place → Bool → Ex → Its → Ex
-call_left p a (node q b f) no_items = node q a f
-call_left p a f is = node p a (call f is)
+-- what is left of a call: its head alone where no item is left, and nothing stands before it
+abbrev pub call_left : Place → Bool → Ex → Sigil → Its → Ex
+call_left p a (node q b f) Plain no_items = node q a f
+call_left p a f s is = node p a (call f s is)
 
 abbrev mutual
   pub strip : Ex → Ex
@@ -69,10 +76,10 @@ abbrev mutual
   strip_form p a (number z) = node p a (number z)
   strip_form p a (text t) = node p a (text t)
   strip_form p a (built s j) = node p a (built s j)
-  strip_form p a (fn q w t e) = node p a (fn (strip_pattern q) w (if_written w t) (strip e))
+  strip_form p a (fn q t e) = node p a (fn (strip_pattern q) unit_con (strip e))
   strip_form p a (fn_con x i w k e) = node p a (fn_con x i w k (strip e))
   strip_form p a (fn_guard c d e) = node p a (fn_guard c d (strip e))
-  strip_form p a (call f is) = call_left p a (strip f) (strip_items is)
+  strip_form p a (call f s is) = call_left p a (strip f) s (strip_items is)
   strip_form p a (let_in ls e) = node p a (let_in (strip_locals ls) (strip e))
   strip_form p a (case_of e r q b bs) = node p a (case_of (strip e) r (strip_pattern q) (strip b) (strip_branches bs))
   strip_form p a (ascribed e t) = node p a (ascribed (strip e) t)
@@ -83,6 +90,8 @@ abbrev mutual
   strip_form p a (without_row e c) = node p a (without_row (strip e) c)
   strip_form p a (folder k ps) = node p a (folder k ps)
   strip_form p a (element m) = node p a (element (strip_element m))
+  strip_form p a (literal c u xs) = node p a (literal unit_con unit_con (strip_nodes xs))
+  strip_form p a (sql k es) = node p a (sql k (strip_exps es))
 
   pub strip_items : Its → Its
   strip_items no_items = no_items
@@ -116,11 +125,16 @@ abbrev mutual
 
   pub strip_nodes : Xs → Xs
   strip_nodes no_nodes = no_nodes
-  strip_nodes (a_node e xs) = a_node (strip e) (strip_nodes xs)
+  strip_nodes (a_node c e xs) = a_node unit_con (strip e) (strip_nodes xs)
+
+  pub strip_exps : Exs → Exs
+  strip_exps no_exps = no_exps
+  strip_exps (an_exp e es) = an_exp (strip e) (strip_exps es)
 
 -- a declaration; a con declaration's kind counts as the types of values do
 abbrev pub strip_decl : De → De
-strip_decl (val p x w t e) = val p x w (if_written w t) (strip e)
-strip_decl (vals ns) = vals (strip_named ns)
-strip_decl (con_is p x w k c) = con_is p x w (kind_if_written w k) c
+strip_decl (val path p x w t e) = val path p x w (if_written w t) (strip e)
+strip_decl (vals path ns) = vals path (strip_named ns)
+strip_decl (con_is path p x w k c) = con_is path p x w (kind_if_written w k) c
 strip_decl (datatype d) = datatype d
+strip_decl (thing path p x k t) = thing path p x k t

@@ -1,8 +1,10 @@
--- Terms, patterns and declarations as finite trees, with their places.
+-- Terms, patterns and declarations as finite trees. A node's place is that of its first token in the source.
 -- The Ur/Web Manual, "Core Language".
-use Rattle.std.specs.Prelude.{ℕ, ℤ, Bool, List, Option}
+use Rattle.std.specs.Prelude.{ℕ, ℤ, Bool, List, Option, length}
 use Rattle.con_terms.specs.Trees.{Kd, Cn, Prs}
 use Rattle.con_terms.specs.declared.place.Place.{Place}
+use Rattle.core_terms.specs.declared.exp.Sigil.{Sigil}
+use Rattle.core_terms.specs.declared.exp.ConOrigin.{ConOrigin}
 use Rattle.core_terms.specs.declared.basis.BasisName.{BasisName}
 use Rattle.core_terms.specs.declared.markup.TagName.{TagName}
 use Rattle.core_terms.specs.declared.markup.AttrName.{AttrName}
@@ -31,6 +33,10 @@ mutual
     no_pat_fields : Pfs
     pat_field : Place → Cn → Pt → Pfs → Pfs
 
+-- what a form of SQL is apart from the terms in it
+pub data Sk : Type 0 where
+  blank : Sk
+
 mutual
   -- terms: a place, whether the term was inserted, and its form
   pub data Ex : Type 0 where
@@ -49,14 +55,14 @@ mutual
     text : List ℕ → Fo
     -- a constructor of a datatype: the datatype's symbol, and the constructor's place in it
     built : ℕ → ℕ → Fo
-    -- fn p : t => e, with a flag that tells whether t was written
-    fn : Pt → Bool → Cn → Ex → Fo
+    -- fn p => e, with the type of what it takes: what the source says of it stands in p
+    fn : Pt → Cn → Ex → Fo
     -- fn [x :: k] => e: the name, whether it is :::, whether k was written, and k
     fn_con : ℕ → Bool → Bool → Kd → Ex → Fo
     -- fn [c ~ d] => e
     fn_guard : Cn → Cn → Ex → Fo
-    -- a term with what it is applied to
-    call : Ex → Its → Fo
+    -- a term, what the source has before it, and what it is applied to
+    call : Ex → Sigil → Its → Fo
     let_in : Los → Ex → Fo
     -- case e of p => e | ..; the first branch stands apart from the rest
     case_of : Ex → Place → Pt → Ex → Brs → Fo
@@ -75,12 +81,17 @@ mutual
     -- the folder of a row whose values have this kind
     folder : Kd → Prs → Fo
     element : El → Fo
+    -- <xml> .. </xml>: the row of where it stands, the fields filled before it, and its nodes
+    literal : Cn → Cn → Xs → Fo
+    -- a form of SQL, and the terms in it in text order
+    sql : Sk → Exs → Fo
 
-  -- what a term is applied to, from left to right: terms; constructors, and guards' proofs, each with whether it was inserted
+  -- what a term is applied to, from left to right: terms; constructors, each with where it comes from; and guards'
+  -- proofs, each with whether it was inserted
   pub data Its : Type 0 where
     no_items : Its
     with_term : Ex → Its → Its
-    with_con : Place → Bool → Cn → Its → Its
+    with_con : Place → ConOrigin → Cn → Its → Its
     with_guard : Place → Bool → Its → Its
 
   -- names with their terms: the place, the name, whether the type was written, and the type
@@ -102,22 +113,28 @@ mutual
     no_fields : Fds
     field : Place → Cn → Ex → Fds → Fds
 
-  -- an element: its tag, the field that an input fills, the row of where it stands, the fields filled before it, its attributes, and the nodes in it
+  -- an element: its tag, the field that an input fills with its place, the row of where it stands, the fields filled
+  -- before it, its attributes, and the nodes in it
   pub data El : Type 0 where
-    tagged : TagName → Option Cn → Cn → Cn → Ats → Xs → El
+    tagged : TagName → Option (Place × Cn) → Cn → Cn → Ats → Xs → El
 
   pub data Ats : Type 0 where
     no_attributes : Ats
     attribute : Place → AttrName → Ex → Ats → Ats
 
+  -- nodes beside one another, each with the fields that it fills
   pub data Xs : Type 0 where
     no_nodes : Xs
-    a_node : Ex → Xs → Xs
+    a_node : Cn → Ex → Xs → Xs
+
+  pub data Exs : Type 0 where
+    no_exps : Exs
+    an_exp : Ex → Exs → Exs
 
 -- one item, and one declaration of a let
 pub data It : Type 0 where
   a_term : Ex → It
-  a_con : Place → Bool → Cn → It
+  a_con : Place → ConOrigin → Cn → It
   a_guard : Place → Bool → It
 
 pub data Lo : Type 0 where
@@ -130,19 +147,36 @@ pub record Cd : Type 0 where
   pub name : ℕ
   pub holds : Option Cn
 
--- a datatype: its type's symbol, how many types it takes, and its constructors
+-- a datatype: the structures around it, its module, its name in the source, its type's symbol, the names of the types
+-- that it takes, and its constructors
 pub record Dt : Type 0 where
+  pub path : List ℕ
   pub place : Place
+  pub home : Option ℕ
+  pub name : ℕ
   pub symbol : ℕ
-  pub parameters : ℕ
+  pub parameters : List ℕ
   pub constructors : List Cd
 
--- declarations
+-- how many types it takes
+abbrev pub arity : Dt → ℕ
+arity d = length d.parameters
+
+-- what a value without a term is: a table with the columns of its key, a sequence, a cookie, an item of a functor's
+-- parameter
+pub data Th : Type 0 where
+  a_table : List (Place × ℕ) → Th
+  a_sequence : Th
+  a_cookie : Th
+  a_given : Th
+
+-- declarations, each with the names of the structures around it
 pub data De : Type 0 where
-  val : Place → ℕ → Bool → Cn → Ex → De
-  vals : Nms → De
-  con_is : Place → ℕ → Bool → Kd → Cn → De
+  val : List ℕ → Place → ℕ → Bool → Cn → Ex → De
+  vals : List ℕ → Nms → De
+  con_is : List ℕ → Place → ℕ → Bool → Kd → Cn → De
   datatype : Dt → De
+  thing : List ℕ → Place → ℕ → Th → Cn → De
 
 -- a rule on addresses
 pub record Ru : Type 0 where

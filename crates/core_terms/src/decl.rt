@@ -1,5 +1,9 @@
 //! Declarations.
+//!
+//! The path of a declaration has the names of the structures around it in its module, from the
+//! outside inwards.
 use crate::exp::{Named, NamedList};
+use crate::names::Symbols;
 use con_terms::con::Con;
 use con_terms::kind::Kind;
 use con_terms::place::Place;
@@ -8,20 +12,39 @@ use con_terms::symbol::Sym;
 /// A declaration of a module. Contracts see it as `decl_tree`.
 #[derive(Drop)]
 pub enum Decl {
-    Val(Named),
-    ValRec(NamedList),
-    /// `con x :: k = c`, and whether the kind was written. Other declarations hold `c` itself.
-    Con(Place, Sym, bool, Kind, Con),
+    /// `val x : t = e`, with its path.
+    Val(Symbols, Named),
+    /// `val rec x : t = e and ..`, with their path.
+    ValRec(Symbols, NamedList),
+    Con(ConDecl),
     Datatype(Datatype),
+    Thing(Thing),
 }
 
-/// A datatype. Its symbol is the basic name of its type, which no other type has.
+/// `con x :: k = c`, and whether the kind was written. Other declarations hold `c` itself.
+#[derive(Drop)]
+pub struct ConDecl {
+    pub path: Symbols,
+    pub place: Place,
+    pub name: Sym,
+    pub written: bool,
+    pub kind: Kind,
+    pub con: Con,
+}
+
+/// A datatype.
 #[derive(Drop)]
 pub struct Datatype {
+    pub path: Symbols,
     pub place: Place,
+    /// The number of its module in the list of modules; none for a datatype that every program has.
+    pub module: Option<u32>,
+    /// Its name in the source, which others may have too.
+    pub name: Sym,
+    /// The basic name of its type, which no other type has.
     pub symbol: Sym,
-    /// How many types it takes.
-    pub parameters: u32,
+    /// The names of the types that it takes.
+    pub parameters: Symbols,
     pub constructors: Constructors,
 }
 
@@ -37,6 +60,40 @@ pub struct Constructor {
 #[derive(Drop)]
 pub struct Constructors {
     pub items: Vec<Constructor>,
+}
+
+/// A value without a term: its name, its type, and what it is.
+#[derive(Drop)]
+pub struct Thing {
+    pub path: Symbols,
+    pub place: Place,
+    pub name: Sym,
+    pub con: Con,
+    pub sort: Sort,
+}
+
+/// What a value without a term is.
+#[derive(Drop)]
+pub enum Sort {
+    /// A table, with the columns of its key.
+    Table(Columns),
+    Sequence,
+    Cookie,
+    /// An item of a functor's parameter.
+    Given,
+}
+
+/// The name of a column.
+#[derive(Drop)]
+pub struct Column {
+    pub place: Place,
+    pub name: Sym,
+}
+
+/// Columns as written.
+#[derive(Drop)]
+pub struct Columns {
+    pub items: Vec<Column>,
 }
 
 /// Declarations in order.

@@ -1,7 +1,12 @@
 //! Terms.
+//!
+//! The place of a term, a pattern, a branch, a field, an attribute or a name is that of its first token
+//! in the source. A flag beside a type or a kind says whether the source has it; a flag beside an item
+//! or a term whether it was inserted.
 use crate::basis::BasisName;
 use crate::markup::{AttrName, TagName};
 use crate::pat::Pat;
+use crate::sql::Skeleton;
 use con_terms::con::{Con, Pairs};
 use con_terms::kind::Kind;
 use con_terms::place::Place;
@@ -18,7 +23,27 @@ pub struct Exp {
     pub form: Form,
 }
 
-/// What a term is. A flag beside a type or a kind says whether the source has it.
+/// What stands before the head of a call in the source.
+#[derive(Clone, Copy, Debug, PartialEq, Eq)]
+pub enum Sigil {
+    /// Nothing: folders, instances, guards and implicit constructors are inserted.
+    Plain,
+    /// `@`: implicit constructors and guards are inserted.
+    At,
+    /// `@@`: nothing is inserted.
+    AtAt,
+}
+
+/// Where a constructor that a term is applied to comes from.
+#[derive(Clone, Copy, Debug, PartialEq, Eq)]
+pub enum ConOrigin {
+    Written,
+    Inserted,
+    /// The source has `_`, for which the constructor was found.
+    Wild,
+}
+
+/// What a term is.
 #[cycle(exp)]
 #[derive(Drop)]
 pub enum Form {
@@ -36,14 +61,14 @@ pub enum Form {
     Words(Text),
     /// A constructor of a datatype: the datatype's symbol, and the constructor's place in it.
     Build(Sym, u32),
-    /// `fn p : t => e`
-    Fn(Pat, bool, Con, Box<Exp>),
+    /// `fn p => e`, with the type of what it takes. What the source says of that type stands in `p`.
+    Fn(Box<Pat>, Con, Box<Exp>),
     /// `fn [x :: k] => e`, or `fn [x ::: k] => e` where the first flag is true
     FnCon(Sym, bool, bool, Kind, Box<Exp>),
     /// `fn [c ~ d] => e`
     FnGuard(Con, Con, Box<Exp>),
     /// A term with what it is applied to.
-    Call(Box<Exp>, Items),
+    Call(Box<Exp>, Sigil, Items),
     /// `let .. in e end`
     Let(Locals, Box<Exp>),
     /// `case e of p => e | ..`
@@ -63,7 +88,11 @@ pub enum Form {
     /// The folder of a row whose values have this kind.
     Folder(Kind, Pairs),
     /// An element of a page.
-    Element(Element),
+    Element(Box<Element>),
+    /// `<xml> .. </xml>`
+    Literal(Box<Literal>),
+    /// A form of SQL: its text with numbered holes, and the terms in these, in text order.
+    Sql(Skeleton, Exps),
 }
 
 /// What a term is applied to.
@@ -72,8 +101,8 @@ pub enum Form {
 pub enum Item {
     /// A term; an inserted one is a folder or an instance.
     Term(Exp),
-    /// A constructor, and whether it was inserted.
-    Con(Place, bool, Con),
+    /// A constructor, and where it comes from.
+    Con(Place, ConOrigin, Con),
     /// A guard's proof, and whether it was inserted.
     Guard(Place, bool),
 }
@@ -150,19 +179,53 @@ pub struct Fields {
     pub items: Vec<Field>,
 }
 
+/// The name of the field that an input fills.
+#[derive(Drop)]
+pub struct InputName {
+    pub place: Place,
+    pub name: Con,
+}
+
 /// An element of a page: its tag, the field that an input fills, the rows that were found for its
 /// place, its attributes, and the nodes that it holds.
 #[cycle(exp)]
 #[derive(Drop)]
 pub struct Element {
     pub tag: TagName,
-    pub field: Option<Con>,
+    pub field: Option<InputName>,
     /// Where it stands, as a row of units.
     pub context: Con,
     /// The fields of the form that are filled before it.
     pub uses: Con,
     pub attributes: Attributes,
-    pub content: Exps,
+    pub content: Nodes,
+}
+
+/// A literal of a page: the rows that were found for its place, and its nodes.
+#[cycle(exp)]
+#[derive(Drop)]
+pub struct Literal {
+    /// Where it stands, as a row of units.
+    pub context: Con,
+    /// The fields of the form that are filled before it.
+    pub uses: Con,
+    pub nodes: Nodes,
+}
+
+/// A node of an element or of a literal.
+#[cycle(exp)]
+#[derive(Drop)]
+pub struct Node {
+    /// The fields of the form that it fills.
+    pub fills: Con,
+    pub term: Exp,
+}
+
+/// Nodes in order. They stand beside one another and nest nothing.
+#[cycle(exp)]
+#[derive(Drop)]
+pub struct Nodes {
+    pub items: Vec<Node>,
 }
 
 /// An attribute of an element.

@@ -9,16 +9,22 @@ pub mod exp;
 pub mod laws;
 pub mod lists;
 pub mod markup;
+pub mod names;
 pub mod pat;
 pub mod program;
 pub mod program_lists;
+pub mod sql;
 
 pub use basis::{BasisName, TypeName};
-pub use decl::{Constructor, Constructors, Datatype, Decl, Decls};
+pub use decl::{
+    Column, Columns, ConDecl, Constructor, Constructors, Datatype, Decl, Decls, Sort, Thing,
+};
 pub use exp::{
-    Attribute, Attributes, Branch, Branches, Element, Exp, Exps, Field, Fields, Form, Item, Items,
-    Local, Locals, Named, NamedList,
+    Attribute, Attributes, Branch, Branches, ConOrigin, Element, Exp, Exps, Field, Fields, Form,
+    InputName, Item, Items, Literal, Local, Locals, Named, NamedList, Node, Nodes, Sigil,
 };
 pub use markup::{AttrName, TagName};
+pub use names::Symbols;
 pub use pat::{Pat, PatField, PatFields, PatForm, Pats};
 pub use program::{Exports, FolderName, Folders, ForeignName, Foreigns, Program, Rule, Rules};
+pub use sql::Skeleton;

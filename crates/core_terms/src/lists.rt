@@ -3,7 +3,7 @@ ghost use Rattle.std.specs.Prelude.{◌≡◌, ◌<◌, ◌++◌, ◌∷◌, [],
 
 use crate::exp::{
     Attribute, Attributes, Branch, Branches, Exp, Exps, Field, Fields, Item, Items, Local, Locals,
-    Named, NamedList,
+    Named, NamedList, Node, Nodes,
 };
 use crate::pat::{PatField, PatFields};
 use std::alloc::{AllocError, Global};
@@ -231,12 +231,12 @@ impl Attributes {
 }
 
 impl Exps {
-    ghost use Rattle.core_terms.specs.Lists.{node_list};
+    ghost use Rattle.core_terms.specs.Lists.{exp_list};
     ghost use Rattle.core_terms.specs.View.{exps_tree, exp_tree};
 
     /// The empty list. It allocates nothing.
     pub fn new(alloc: Global) -> Exps
-        ensures { node_list (exps_tree result) ≡ [] }
+        ensures { exp_list (exps_tree result) ≡ [] }
     {
         Exps {
             items: Vec::new(alloc),
@@ -245,23 +245,60 @@ impl Exps {
 
     /// Adds a term at the end. An `Err` changes nothing.
     pub fn push(&mut self, term: Exp) -> Result<(), AllocError>
-        ensures grown { OnOk result (node_list (exps_tree self.new) ≡ node_list (exps_tree self.old) ++ exp_tree term ∷ []) }
-        ensures kept { OnErr result (node_list (exps_tree self.new) ≡ node_list (exps_tree self.old)) }
+        ensures grown { OnOk result (exp_list (exps_tree self.new) ≡ exp_list (exps_tree self.old) ++ exp_tree term ∷ []) }
+        ensures kept { OnErr result (exp_list (exps_tree self.new) ≡ exp_list (exps_tree self.old)) }
     {
         Ok(self.items.push(term)?)
     }
 
     /// The number of terms.
     pub fn len(&self) -> usize
-        ensures { result ≡ length (node_list (exps_tree self.now)) }
+        ensures { result ≡ length (exp_list (exps_tree self.now)) }
     {
         self.items.len()
     }
 
     /// The term at this place, counted from 0.
     pub fn at(&self, i: usize) -> &Exp
-        requires { i < length (node_list (exps_tree self.now)) }
-        ensures { slice_get (node_list (exps_tree self.now)) i ≡ Some (exp_tree result.now) }
+        requires { i < length (exp_list (exps_tree self.now)) }
+        ensures { slice_get (exp_list (exps_tree self.now)) i ≡ Some (exp_tree result.now) }
+    {
+        &self.items[i]
+    }
+}
+
+impl Nodes {
+    ghost use Rattle.core_terms.specs.Lists.{node_list, node_tree};
+    ghost use Rattle.core_terms.specs.View.{nodes_tree};
+
+    /// The empty list. It allocates nothing.
+    pub fn new(alloc: Global) -> Nodes
+        ensures { node_list (nodes_tree result) ≡ [] }
+    {
+        Nodes {
+            items: Vec::new(alloc),
+        }
+    }
+
+    /// Adds a node at the end. An `Err` changes nothing.
+    pub fn push(&mut self, node: Node) -> Result<(), AllocError>
+        ensures grown { OnOk result (node_list (nodes_tree self.new) ≡ node_list (nodes_tree self.old) ++ node_tree node ∷ []) }
+        ensures kept { OnErr result (node_list (nodes_tree self.new) ≡ node_list (nodes_tree self.old)) }
+    {
+        Ok(self.items.push(node)?)
+    }
+
+    /// The number of nodes.
+    pub fn len(&self) -> usize
+        ensures { result ≡ length (node_list (nodes_tree self.now)) }
+    {
+        self.items.len()
+    }
+
+    /// The node at this place, counted from 0.
+    pub fn at(&self, i: usize) -> &Node
+        requires { i < length (node_list (nodes_tree self.now)) }
+        ensures { slice_get (node_list (nodes_tree self.now)) i ≡ Some (node_tree result.now) }
     {
         &self.items[i]
     }

@@ -1,7 +1,7 @@
 //! Lists of what programs are made of.
 ghost use Rattle.std.specs.Prelude.{◌≡◌, ◌<◌, ◌++◌, ◌∷◌, [], Some, length, slice_get, OnOk, OnErr};
 
-use crate::decl::{Constructor, Constructors, Decl, Decls};
+use crate::decl::{Column, Columns, Constructor, Constructors, Decl, Decls};
 use crate::pat::{Pat, Pats};
 use crate::program::{Exports, FolderName, Folders, ForeignName, Foreigns, Rule, Rules};
 use std::alloc::{AllocError, Global};
@@ -74,6 +74,43 @@ impl Constructors {
     pub fn at(&self, i: usize) -> &Constructor
         requires { i < length (constructors_view self.now) }
         ensures { slice_get (constructors_view self.now) i ≡ Some (constructor_view result.now) }
+    {
+        &self.items[i]
+    }
+}
+
+impl Columns {
+    ghost use Rattle.core_terms.specs.Lists.{columns_view};
+    ghost use Rattle.core_terms.specs.View.{column_view};
+
+    /// The empty list. It allocates nothing.
+    pub fn new(alloc: Global) -> Columns
+        ensures { columns_view result ≡ [] }
+    {
+        Columns {
+            items: Vec::new(alloc),
+        }
+    }
+
+    /// Adds a column at the end. An `Err` changes nothing.
+    pub fn push(&mut self, column: Column) -> Result<(), AllocError>
+        ensures grown { OnOk result (columns_view self.new ≡ columns_view self.old ++ column_view column ∷ []) }
+        ensures kept { OnErr result (columns_view self.new ≡ columns_view self.old) }
+    {
+        Ok(self.items.push(column)?)
+    }
+
+    /// The number of columns.
+    pub fn len(&self) -> usize
+        ensures { result ≡ length (columns_view self.now) }
+    {
+        self.items.len()
+    }
+
+    /// The column at this place, counted from 0.
+    pub fn at(&self, i: usize) -> &Column
+        requires { i < length (columns_view self.now) }
+        ensures { slice_get (columns_view self.now) i ≡ Some (column_view result.now) }
     {
         &self.items[i]
     }

@@ -1,5 +1,5 @@
 -- The scopes of an accepted program are grounded.
-use Rattle.std.proofs.Common.{◌≡◌, ◌≢◌, ℕ, zero, suc, ◌+◌, Bool, true, false, ◌==◌, if◌then◌else◌, inl, inr, List, [], ◌∷◌, ◌++◌, map, Some, None, slice_get, refl, ap, sym, subst, ◌∙◌, arith, append_assoc}
+use Rattle.std.proofs.Common.{◌≡◌, ◌≢◌, ℕ, zero, suc, ◌+◌, Bool, true, false, ◌==◌, if◌then◌else◌, inl, inr, List, [], ◌∷◌, ◌++◌, map, Some, None, slice_get, refl, ap, sym, subst, ◌∙◌, arith, append_assoc, length}
 use Rattle.std.specs.List.{Contains, All}
 use Rattle.std.proofs.lemmas.List.{append-nil}
 use Rattle.std.proofs.lemmas.List.Elements.{All-contains, All-nil, All-cons, Contains-append_left, Contains-append_right, Contains-append_cases}
@@ -11,7 +11,7 @@ use Rattle.con_terms.specs.Equal.{same}
 use Rattle.con_terms.specs.Apart.{Separated, names_differ, Apart, apart, PairwiseApart}
 use Rattle.con_terms.specs.Kinded.{Scope, bind, assume, basic_kind, Kinded, of_var, of_basic, of_arrow, of_poly, of_guarded, of_record, of_app, of_lambda, of_unit, of_name, of_row, of_cat, of_map, of_tuple, of_proj, KindedAll, no_components, a_component, KindedPairs, no_fields, a_field}
 use Rattle.core_terms.specs.Names.{bool_name, option_name, list_name, first_name, second_name, false_name, true_name, none_name, some_name, nil_name, cons_name}
-use Rattle.core_terms.specs.Trees.{Nms, De, val, vals, con_is, datatype, Cd, Dt, Pg}
+use Rattle.core_terms.specs.Trees.{Nms, De, val, vals, con_is, datatype, Cd, Dt, Pg, arity, thing}
 use Rattle.core_terms.specs.Types.{type_taking}
 use Rattle.core_terms.specs.Datatypes.{basis_datatypes, constructor_of, datatype_of}
 use Rattle.core_typing.specs.Scopes.{Sc, under_con, basis_kinds, datatype_kinds, folder_kinds}
@@ -133,7 +133,7 @@ names_at p ds = basis_kinds ++ datatype_kinds (basis_datatypes ++ ds) ++ folder_
 
 kinds_of_both : (xs ys : List Dt) → datatype_kinds (xs ++ ys) ≡ datatype_kinds xs ++ datatype_kinds ys
 kinds_of_both [] ys = refl
-kinds_of_both (d ∷ xs) ys = ap (λ bs. (d.symbol, type_taking d.parameters) ∷ bs) (kinds_of_both xs ys)
+kinds_of_both (d ∷ xs) ys = ap (λ bs. (d.symbol, type_taking (arity d)) ∷ bs) (kinds_of_both xs ys)
 
 in_both : (xs ys : List Dt) (b : ℕ × Kd) → Contains (datatype_kinds xs) b → Contains (datatype_kinds (xs ++ ys)) b
 in_both xs ys b c = subst (λ bs. Contains bs b) (sym (kinds_of_both xs ys)) (Contains-append_left (datatype_kinds xs) (datatype_kinds ys) b c)
@@ -164,7 +164,7 @@ top_more p ds more n u h = kinded_more (record { binders = refl; guards = refl; 
 
 -- what each constructor of a datatype holds is a type
 abbrev Holds : List (ℕ × Kd) → Dt → Type 0
-Holds bs d = (c : Cd) (h : Cn) → Contains d.constructors c → c.holds ≡ Some h → Kinded (at_top d.parameters bs) h types
+Holds bs d = (c : Cd) (h : Cn) → Contains d.constructors c → c.holds ≡ Some h → Kinded (at_top (arity d) bs) h types
 
 none_is_none : {P : Type 0} (h : Cn) → None ≡ Some h → P
 none_is_none h e = cc
@@ -188,19 +188,19 @@ abbrev pair_of : Cn
 pair_of = record_of (row types (pair (name first_name) (var 0) (pair (name second_name) (app (basic list_name) (var 0)) no_pairs)))
 
 basis_holds : (bs : List (ℕ × Kd)) → basic_kind bs list_name ≡ Some (to types types) → (d : Dt) → Contains basis_datatypes d → Holds bs d
-basis_holds bs l d (zero, lt, e) c h i s = subst (λ x. Contains x.constructors c → Kinded (at_top x.parameters bs) h types) e bools i
+basis_holds bs l d (zero, lt, e) c h i s = subst (λ x. Contains x.constructors c → Kinded (at_top (arity x) bs) h types) e bools i
   where
     bools : Contains (constructor_of false_name None ∷ constructor_of true_name None ∷ []) c → Kinded (at_top 0 bs) h types
     bools (zero, lt, e) = holds_nothing (constructor_of false_name None) c h e refl s
     bools (suc zero, lt, e) = holds_nothing (constructor_of true_name None) c h e refl s
     bools (suc (suc i), lt, e) = absurd (omega (arith, lt))
-basis_holds bs l d (suc zero, lt, e) c h i s = subst (λ x. Contains x.constructors c → Kinded (at_top x.parameters bs) h types) e options i
+basis_holds bs l d (suc zero, lt, e) c h i s = subst (λ x. Contains x.constructors c → Kinded (at_top (arity x) bs) h types) e options i
   where
     options : Contains (constructor_of none_name None ∷ constructor_of some_name (Some (var 0)) ∷ []) c → Kinded (at_top 1 bs) h types
     options (zero, lt, e) = holds_nothing (constructor_of none_name None) c h e refl s
     options (suc zero, lt, e) = subst (λ u. Kinded (at_top 1 bs) u types) (holds_this (constructor_of some_name (Some (var 0))) c h (var 0) e refl s) (of_var refl)
     options (suc (suc i), lt, e) = absurd (omega (arith, lt))
-basis_holds bs l d (suc (suc zero), lt, e) c h i s = subst (λ x. Contains x.constructors c → Kinded (at_top x.parameters bs) h types) e lists i
+basis_holds bs l d (suc (suc zero), lt, e) c h i s = subst (λ x. Contains x.constructors c → Kinded (at_top (arity x) bs) h types) e lists i
   where
     lists : Contains (constructor_of nil_name None ∷ constructor_of cons_name (Some pair_of) ∷ []) c → Kinded (at_top 1 bs) h types
     lists (zero, lt, e) = holds_nothing (constructor_of nil_name None) c h e refl s
@@ -214,29 +214,29 @@ record Good (p : Pg) (tops : List Cn) (ds : List Dt) : Type 0 where
   values_are : AreTypes (at_top 0 (names_at p ds)) tops
   held_are : (d : Dt) → Contains (basis_datatypes ++ ds) d → Holds (names_at p ds) d
 
-named_values_are : {A : Asks} {G H : Sc} {ns : Nms} → NamedTyped A G H ns → AreTypes G.kinds (value_types (named_values ns))
-named_values_are no_name = none_are
-named_values_are (each_name {t = t} {ns = ns} k e rest) = more_are t (value_types (named_values ns)) k (named_values_are rest)
+named_values_are : {A : Asks} {G H : Sc} {ns : Nms} (path : List ℕ) → NamedTyped A G H ns → AreTypes G.kinds (value_types (named_values path ns))
+named_values_are path no_name = none_are
+named_values_are path (each_name {t = t} {ns = ns} k e rest) = more_are t (value_types (named_values path ns)) k (named_values_are path rest)
 
 -- under a datatype's parameters
-under_are : (bs : List (ℕ × Kd)) (n m : ℕ) (G : Sc) → G.kinds ≡ at_top m bs → (under_types n G).kinds ≡ at_top (n + m) bs
-under_are bs zero m G e = let none : m ≡ 0 + m = omega arith in e ∙ ap (λ k. at_top k bs) none
-under_are bs (suc n) m G e =
-    let next : n + suc m ≡ suc n + m = omega arith in
-    under_are bs n (suc m) (under_con types G) (ap (bind types) e) ∙ ap (λ k. at_top k bs) next
+under_are : (bs : List (ℕ × Kd)) (xs : List ℕ) (m : ℕ) (G : Sc) → G.kinds ≡ at_top m bs → (under_types xs G).kinds ≡ at_top (length xs + m) bs
+under_are bs [] m G e = let none : m ≡ 0 + m = omega arith in e ∙ ap (λ k. at_top k bs) none
+under_are bs (x ∷ xs) m G e =
+    let next : length xs + suc m ≡ suc (length xs) + m = omega arith in
+    under_are bs xs (suc m) (under_con x types G) (ap (bind types) e) ∙ ap (λ k. at_top k bs) next
 
 one_more_datatype : (p : Pg) (tops : List Cn) (ds : List Dt) (d : Dt) → Unique (names_at p (ds ++ d ∷ [])) → HoldsTypes (scope_with p tops (ds ++ d ∷ [])) d → Good p tops ds → Good p tops (ds ++ d ∷ [])
 one_more_datatype p tops ds d u h g = record {
   values_are = λ i t e. top_more p ds (d ∷ []) 0 u (g.values_are i t e);
   held_are = λ x c. elim (Contains-append_cases (basis_datatypes ++ ds) (d ∷ []) x c) [
-    | inl i ↦ λ k y j s. top_more p ds (d ∷ []) x.parameters u (g.held_are x i k y j s)
+    | inl i ↦ λ k y j s. top_more p ds (d ∷ []) (arity x) u (g.held_are x i k y j s)
     | inr i ↦ elim (head_or x d [] i) [ inl e ↦ subst (Holds (names_at p (ds ++ d ∷ []))) e own | inr j ↦ nothing_in x j ]
   ];
 }
   where
     own : Holds (names_at p (ds ++ d ∷ [])) d
     own k y j s =
-        let plain : d.parameters + 0 ≡ d.parameters = omega arith in
+        let plain : arity d + 0 ≡ arity d = omega arith in
         subst (λ S. Kinded S y types) (under_are (names_at p (ds ++ d ∷ [])) d.parameters 0 (scope_with p tops (ds ++ d ∷ [])) refl ∙ ap (λ k. at_top k (names_at p (ds ++ d ∷ []))) plain) (h k y j s)
 
 good_at : {p : Pg} {tops us : List Cn} {ds es : List Dt} → tops ≡ us → ds ≡ es → Good p tops ds → Good p us es
@@ -244,13 +244,14 @@ good_at {p} {tops} {us} {ds} {es} e h g = subst (λ xs. Good p us xs) h (subst (
 
 declared_after : {A : Asks} (p : Pg) (front rest : List De) (tops : List Cn) (ds : List Dt) → Unique (names_at p (ds ++ datatypes (front ++ rest))) → DeclsTyped A p tops ds (front ++ rest) → Good p tops ds → Good p (tops ++ value_types (values front)) (ds ++ datatypes front)
 declared_after p [] rest tops ds u t g = good_at (sym (append-nil tops)) (sym (append-nil ds)) g
-declared_after p (val at x w c e ∷ front) rest tops ds u (a_val k y t) g =
+declared_after p (val path at x w c e ∷ front) rest tops ds u (a_val k y t) g =
     good_at (append_assoc tops (c ∷ []) (value_types (values front))) refl
     (declared_after p front rest (tops ++ c ∷ []) ds u t (record { values_are = both_are tops (c ∷ []) g.values_are (more_are c [] k none_are); held_are = g.held_are }))
-declared_after p (vals ns ∷ front) rest tops ds u (some_vals y t) g =
-    good_at (append_assoc tops (value_types (named_values ns)) (value_types (values front)) ∙ ap (λ ts. tops ++ ts) (sym (map-append (λ (v : Value). v.con) (named_values ns) (values front)))) refl
-    (declared_after p front rest (tops ++ value_types (named_values ns)) ds u t (record { values_are = both_are tops (value_types (named_values ns)) g.values_are (named_values_are y); held_are = g.held_are }))
-declared_after p (con_is at x w k c ∷ front) rest tops ds u (a_con y t) g = declared_after p front rest tops ds u t g
+declared_after p (vals path ns ∷ front) rest tops ds u (some_vals y t) g =
+    good_at (append_assoc tops (value_types (named_values path ns)) (value_types (values front)) ∙ ap (λ ts. tops ++ ts) (sym (map-append (λ (v : Value). v.con) (named_values path ns) (values front)))) refl
+    (declared_after p front rest (tops ++ value_types (named_values path ns)) ds u t (record { values_are = both_are tops (value_types (named_values path ns)) g.values_are (named_values_are path y); held_are = g.held_are }))
+declared_after p (con_is path at x w k c ∷ front) rest tops ds u (a_con y t) g = declared_after p front rest tops ds u t g
+declared_after p (thing path at x k c ∷ front) rest tops ds u t g = elim t [ ]
 declared_after p (datatype d ∷ front) rest tops ds u (a_datatype h n t) g =
     let all = subst (λ es. Unique (names_at p es)) (sym (append_assoc ds (d ∷ []) (datatypes (front ++ rest)))) u in
     let these = fewer_unique (names_at p (ds ++ d ∷ [])) (names_at p ((ds ++ d ∷ []) ++ datatypes (front ++ rest))) (names_grow p (ds ++ d ∷ []) (datatypes (front ++ rest))) all in
@@ -265,11 +266,11 @@ datatype_in : (ds : List Dt) (s : ℕ) (d : Dt) → datatype_of ds s ≡ Some d 
 datatype_in [] s d e = cc
 datatype_in (x ∷ ds) s d e = datatype_test x d ds s (x.symbol == s) refl (datatype_in ds s d) e
 
-kind_in : (ds : List Dt) (d : Dt) → Contains ds d → Contains (datatype_kinds ds) (d.symbol, type_taking d.parameters)
+kind_in : (ds : List Dt) (d : Dt) → Contains ds d → Contains (datatype_kinds ds) (d.symbol, type_taking (arity d))
 kind_in [] d c = nothing_in d c
 kind_in (x ∷ ds) d c = elim (head_or d x ds c) [
-  | inl e ↦ subst (λ y. Contains (datatype_kinds (x ∷ ds)) (y.symbol, type_taking y.parameters)) e (contains_head (x.symbol, type_taking x.parameters) (datatype_kinds ds))
-  | inr i ↦ contains_tail (d.symbol, type_taking d.parameters) (x.symbol, type_taking x.parameters) (datatype_kinds ds) (kind_in ds d i)
+  | inl e ↦ subst (λ y. Contains (datatype_kinds (x ∷ ds)) (y.symbol, type_taking (arity y))) e (contains_head (x.symbol, type_taking (arity x)) (datatype_kinds ds))
+  | inr i ↦ contains_tail (d.symbol, type_taking (arity d)) (x.symbol, type_taking (arity x)) (datatype_kinds ds) (kind_in ds d i)
 ]
 
 folder_in : (fs : List (Kd × ℕ)) (k : Kd) (s : ℕ) → Contains fs (k, s) → Contains (folder_kinds fs) (s, to (row_of k) types)
@@ -295,7 +296,7 @@ has_types p tops ds u g = record { grounded = grounded; locals = λ i t e. cc }
     grounded = record {
       tops = g.values_are;
       held = λ s j d c h e k x. g.held_are d (datatype_in (basis_datatypes ++ ds) s d e).0 c h (there_in d.constructors j c k) x;
-      datatypes = λ s d e. let r = datatype_in (basis_datatypes ++ ds) s d e in subst (λ x. basic_kind (names_at p ds) x ≡ Some (type_taking d.parameters)) r.1 (found_there (names_at p ds) u d.symbol (type_taking d.parameters) (middle (d.symbol, type_taking d.parameters) (kind_in (basis_datatypes ++ ds) d r.0)));
+      datatypes = λ s d e. let r = datatype_in (basis_datatypes ++ ds) s d e in subst (λ x. basic_kind (names_at p ds) x ≡ Some (type_taking (arity d))) r.1 (found_there (names_at p ds) u d.symbol (type_taking (arity d)) (middle (d.symbol, type_taking (arity d)) (kind_in (basis_datatypes ++ ds) d r.0)));
       folders = λ k s c. found_there (names_at p ds) u s (to (row_of k) types) (last (s, to (row_of k) types) (folder_in p.folders k s c));
       basis = λ b c. found_there (names_at p ds) u b.0 b.1 (Contains-append_left basis_kinds (datatype_kinds (basis_datatypes ++ ds) ++ folder_kinds p.folders) b c);
       bools = found_there (names_at p ds) u bool_name types (middle (bool_name, types) (0, omega arith, refl));
@@ -305,9 +306,10 @@ has_types p tops ds u g = record { grounded = grounded; locals = λ i t e. cc }
 
 datatypes_of : (front rest : List De) → datatypes (front ++ rest) ≡ datatypes front ++ datatypes rest
 datatypes_of [] rest = refl
-datatypes_of (val at x w t e ∷ front) rest = datatypes_of front rest
-datatypes_of (vals ns ∷ front) rest = datatypes_of front rest
-datatypes_of (con_is at x w k c ∷ front) rest = datatypes_of front rest
+datatypes_of (val path at x w t e ∷ front) rest = datatypes_of front rest
+datatypes_of (vals path ns ∷ front) rest = datatypes_of front rest
+datatypes_of (con_is path at x w k c ∷ front) rest = datatypes_of front rest
+datatypes_of (thing path at x k t ∷ front) rest = datatypes_of front rest
 datatypes_of (datatype d ∷ front) rest = ap (λ ds. d ∷ ds) (datatypes_of front rest)
 
 start : (p : Pg) → Unique (names_at p []) → Good p [] []

@@ -15,7 +15,7 @@ use Rattle.core_terms.specs.declared.basis.TypeName.TheVariants as type_name
 use Rattle.core_terms.specs.BasisTexts.{named_type, named_kind}
 use Rattle.core_terms.specs.Basis.{basis_type, two_numbers, two_alike, two_ordered, for_results, plain_xml, fold_step_type, fold_type}
 use Rattle.core_terms.specs.Datatypes.{parameters_of, own_type, constructor_type}
-use Rattle.core_terms.specs.Trees.{Cd, Dt}
+use Rattle.core_terms.specs.Trees.{Cd, Dt, arity}
 use Rattle.core_typing.specs.Scopes.{basis_kinds}
 use Rattle.core_typing.specs.Grounded.{so_many_types, at_top}
 
@@ -263,12 +263,12 @@ at_parameters : (n m : ℕ) (bs : List (ℕ × Kd)) {f : Cn} → (m < suc n) →
 at_parameters n zero bs h k = k
 at_parameters n (suc m) bs h k = at_parameters n m bs (omega (arith, h)) (of_app k (of_var (so_many n m (omega (arith, h)))))
 
-own_kind : (d : Dt) (bs : List (ℕ × Kd)) → basic_kind bs d.symbol ≡ Some (type_taking d.parameters) → Kinded (at_top d.parameters bs) (own_type d) types
-own_kind d bs h = at_parameters d.parameters d.parameters bs (omega arith) (of_basic h)
+own_kind : (d : Dt) (bs : List (ℕ × Kd)) → basic_kind bs d.symbol ≡ Some (type_taking (arity d)) → Kinded (at_top (arity d) bs) (own_type d) types
+own_kind d bs h = at_parameters (arity d) (arity d) bs (omega arith) (of_basic h)
 
-pub constructor_kind : (d : Dt) (c : Cd) (bs : List (ℕ × Kd)) → basic_kind bs d.symbol ≡ Some (type_taking d.parameters) → ((held : Cn) → c.holds ≡ Some held → Kinded (at_top d.parameters bs) held types) → Kinded (at_top 0 bs) (constructor_type d c) types
-constructor_kind d c bs h each = for_types_kind d.parameters bs (body c.holds refl)
+pub constructor_kind : (d : Dt) (c : Cd) (bs : List (ℕ × Kd)) → basic_kind bs d.symbol ≡ Some (type_taking (arity d)) → ((held : Cn) → c.holds ≡ Some held → Kinded (at_top (arity d) bs) held types) → Kinded (at_top 0 bs) (constructor_type d c) types
+constructor_kind d c bs h each = for_types_kind (arity d) bs (body c.holds refl)
   where
-    body : (o : Option Cn) → c.holds ≡ o → Kinded (at_top d.parameters bs) (elim o [ None ↦ own_type d | Some held ↦ arrow held (own_type d) ]) types
+    body : (o : Option Cn) → c.holds ≡ o → Kinded (at_top (arity d) bs) (elim o [ None ↦ own_type d | Some held ↦ arrow held (own_type d) ]) types
     body None e = own_kind d bs h
     body (Some held) e = of_arrow (each held e) (own_kind d bs h)

@@ -1,13 +1,13 @@
 -- A term is found with cover, or a premise fails in it, where cover and links are decided.
 use Rattle.std.proofs.Common.{◌≡◌, ℕ, Bool, true, false, List, [], ◌∷◌, Option, Some, None, slice_get, Result, Ok, Err, nat_lt, refl, ap, ◌∙◌, arith, ◌⊎◌, inl, inr}
 use Rattle.std.specs.Prelude.{◌<◌}
-use Rattle.con_terms.specs.Trees.{Kd, types, names, row_of, Cn, arrow, record_of, row, cat, Prs}
+use Rattle.con_terms.specs.Trees.{Kd, types, names, row_of, Cn, arrow, record_of, row, cat, Prs, units}
 use Rattle.con_terms.specs.declared.place.Place.{Place}
 use Rattle.row_normal.specs.Ordered.{ordered, ordered_pieces}
 use Rattle.kind_rules.specs.Flaws.{Flw}
 use Rattle.kind_rules.specs.Compared.{comparison_units, normal_forms}
 use Rattle.core_terms.specs.declared.markup.TagName.{TagName}
-use Rattle.core_terms.specs.Trees.{Pt, Ex, node, bound, top, foreign, basis, fold_over, number, text, built, fn, fn_con, fn_guard, call, let_in, case_of, ascribed, fields_of, select, concat, without, without_row, folder, element, Its, no_items, with_term, with_con, with_guard, Nms, no_named, named, Los, no_locals, local_val, local_rec, Brs, no_branches, branch, Fds, no_fields, field, tagged, Ats, no_attributes, attribute, Xs, no_nodes, a_node, Cd, Dt}
+use Rattle.core_terms.specs.Trees.{Pt, Ex, node, bound, top, foreign, basis, fold_over, number, text, built, fn, fn_con, fn_guard, call, let_in, case_of, ascribed, fields_of, select, concat, without, without_row, folder, element, Its, no_items, with_term, with_con, with_guard, Nms, no_named, named, Los, no_locals, local_val, local_rec, Brs, no_branches, branch, Fds, no_fields, field, tagged, Ats, no_attributes, attribute, Xs, no_nodes, a_node, Cd, Dt, literal, sql}
 use Rattle.core_terms.specs.Types.{type_row}
 use Rattle.core_terms.specs.Datatypes.{datatype_of}
 use Rattle.core_typing.specs.Scopes.{folder_of, Sc, under, under_con, under_guard, normal_of}
@@ -17,8 +17,8 @@ use Rattle.core_typing.specs.Typed.{branch_patterns, named_types}
 use Rattle.core_typing.specs.Compared.{Disjoint, RecordAnd, field_of, without_pieces}
 use Rattle.core_typing.specs.Judged.{guard_forms}
 use Rattle.core_typing.specs.PatternFaults.{PatFound}
-use Rattle.core_typing.specs.Found.{FoundBy, bound_has, top_has, foreign_has, basis_has, fold_has, number_has, text_has, built_has, fn_has, fn_con_has, fn_guard_has, call_has, let_has, case_has, ascribed_has, fields_have, select_has, concat_has, without_has, without_row_has, folder_has, at_end, EachFound, no_branch_found, no_field_found, nothing_found, no_name_found, no_attribute_found, no_node_found}
-use Rattle.core_typing.specs.Own.{place_of, type_place, any_function, any_poly, any_guarded, any_record, Wants, NotOf, other_form, large_form, IsFunction, IsPoly, IsGuarded, IsRecord, IsTree, Meets, they_touch, they_are_large, Uncovered, CallsTop, top_alone, top_called, NotLinked, ItemFault, NamedFault, LocalFault, BranchFault, BranchDiffers, FieldFault, AttributeFault, SecondAt, AttributeTwice, NodeFault, NotWords, NotHeld, held_there, large_there, ElementFault, PatsFound, no_pats, a_pat, Own}
+use Rattle.core_typing.specs.Found.{FoundBy, bound_has, top_has, foreign_has, basis_has, fold_has, number_has, text_has, built_has, fn_has, fn_con_has, fn_guard_has, call_has, let_has, case_has, ascribed_has, fields_have, select_has, concat_has, without_has, without_row_has, folder_has, at_end, EachFound, no_branch_found, no_field_found, nothing_found, no_name_found, no_attribute_found, no_node_found, literal_has}
+use Rattle.core_typing.specs.Own.{place_of, type_place, any_function, any_poly, any_guarded, any_record, Wants, NotOf, other_form, large_form, IsFunction, IsPoly, IsGuarded, IsRecord, Meets, they_touch, they_are_large, Uncovered, CallsTop, top_alone, top_called, NotLinked, ItemFault, NamedFault, LocalFault, BranchFault, BranchDiffers, FieldFault, AttributeFault, SecondAt, AttributeTwice, NodeFault, NotWords, NotHeld, held_there, large_there, ElementFault, PatsFound, no_pats, a_pat, Own}
 use Rattle.core_typing.specs.Own as own
 use Rattle.core_typing.specs.Tells.{InItems, InFields, InBranches, InNamed, InLocals, Behind, InAttributes, InNodes, Sub, Fails, itself, inside}
 use Rattle.core_typing.specs.Tells as tells
@@ -29,8 +29,9 @@ use Rattle.core_typing.proofs.OneType.{one_value}
 use Rattle.core_typing.proofs.Shapes.{is_function, is_poly, is_guarded, is_record}
 use Rattle.core_typing.proofs.DecidedForms.{Fd, Fl, Told, own_fails, part_fails, bare, only_large, kinding, apartness, Head, no_form, head, no_head, head_of, none_some}
 use Rattle.core_typing.proofs.DecidedPatterns.{PatDec, Kds, pattern_dec}
-use Rattle.core_typing.proofs.DecidedParts.{ItemsOut, leads, item_fault, item_part, NamedOut, all_named, LocalsOut, all_locals, local_fault, local_part, BranchesOut, all_branches, pattern_fault, body_fault, branch_part, FieldsOut, all_fields, field_fault, field_part, AttributesOut, all_attributes, NodesOut, all_nodes, term_dec, con_dec, guard_dec, WrittenOut, as_written, bad_kind, bad_type, bad_term, written_dec, name_dec, val_dec, rec_dec, branch_dec, record_field_dec, second_dec, attribute_dec, node_dec}
+use Rattle.core_typing.proofs.DecidedParts.{ItemsOut, leads, item_fault, item_part, NamedOut, all_named, LocalsOut, all_locals, local_fault, local_part, BranchesOut, all_branches, pattern_fault, body_fault, branch_part, FieldsOut, all_fields, field_fault, field_part, AttributesOut, all_attributes, NodesOut, all_nodes, term_dec, con_dec, guard_dec, WrittenOut, as_written, bad_kind, bad_type, bad_term, written_dec, name_dec, val_dec, rec_dec, branch_dec, record_field_dec, second_dec, attribute_dec, node_dec, last_dec, node_fault, node_part}
 use Rattle.core_typing.proofs.DecidedElements.{FirstNode, element_dec, tagged_dec}
+use Rattle.core_terms.specs.declared.exp.Sigil.{Sigil}
 
 -- terms
 abbrev pub Dec : Sc → Ex → Type 0
@@ -63,17 +64,17 @@ built_dec G p a s j (Some d) h = by_place (slice_get d.constructors j) refl
     by_place None g = inr (own_fails (own.no_constructor (λ b c e f. none_some (ap (λ (z : Dt). slice_get z.constructors j) (one_value e h) ∙ g) f)))
     by_place (Some c) g = inl (_, built_has h g)
 
-pub fn_dec : CoverIsDecided → (G : Sc) (p : Place) (a : Bool) (q : Pt) (w : Bool) (t : Cn) (e : Ex) → Kds G t types → PatDec G q t → ((ts : List Cn) → Dec (under ts G) e) → Dec G (node p a (fn q w t e))
-fn_dec cover G p a q w t e (inr l) d go = let (f, x) = l p in inr (own_fails (own.parameter_kind x))
-fn_dec cover G p a q w t e (inl k) (inr (f, x)) go = inr (own_fails (own.parameter_pattern k x))
-fn_dec cover G p a q w t e (inl k) (inl (ts, h)) go = by_cover (cover G p (q ∷ []) t) (go ts)
+pub fn_dec : CoverIsDecided → (G : Sc) (p : Place) (a : Bool) (q : Pt) (t : Cn) (e : Ex) → Kds G t types → PatDec G q t → ((ts : List Cn) → Dec (under ts G) e) → Dec G (node p a (fn q t e))
+fn_dec cover G p a q t e (inr l) d go = let (f, x) = l p in inr (own_fails (own.parameter_kind x))
+fn_dec cover G p a q t e (inl k) (inr (f, x)) go = inr (own_fails (own.parameter_pattern k x))
+fn_dec cover G p a q t e (inl k) (inl (ts, h)) go = by_cover (cover G p (q ∷ []) t) (go ts)
   where
-    by_cover : Covers G.datatypes (q ∷ []) t ⊎ Told (Uncovered G p (q ∷ []) t) → Dec (under ts G) e → Dec G (node p a (fn q w t e))
+    by_cover : Covers G.datatypes (q ∷ []) t ⊎ Told (Uncovered G p (q ∷ []) t) → Dec (under ts G) e → Dec G (node p a (fn q t e))
     by_cover (inr (f, x)) d = inr (own_fails (own.parameter_cover k h x))
     by_cover (inl c) (inl (u, x)) = inl (arrow t u, fn_has k h c x)
     by_cover (inl c) (inr x) = inr (part_fails (tells.fn_body k h) x)
 
-pub con_fn_dec : (G : Sc) (p : Place) (a : Bool) (x : ℕ) (i w : Bool) (k : Kd) (e : Ex) → Dec (under_con k G) e → Dec G (node p a (fn_con x i w k e))
+pub con_fn_dec : (G : Sc) (p : Place) (a : Bool) (x : ℕ) (i w : Bool) (k : Kd) (e : Ex) → Dec (under_con x k G) e → Dec G (node p a (fn_con x i w k e))
 con_fn_dec G p a x i w k e (inl (t, h)) = inl (_, fn_con_has h)
 con_fn_dec G p a x i w k e (inr h) = inr (part_fails tells.con_body h)
 
@@ -85,11 +86,11 @@ guard_fn_dec G p a c d e (Ok (m, n)) h go = by_body (go m n)
     by_body (inl (t, x)) = inl (_, fn_guard_has h x)
     by_body (inr x) = inr (part_fails (tells.guard_body h) x)
 
-pub call_dec : (G : Sc) (p : Place) (a : Bool) (e : Ex) (is : Its) → Dec G e → ((t : Cn) → ItemsOut G (place_of e) t is) → Dec G (node p a (call e is))
-call_dec G p a e is (inr x) go = inr (part_fails tells.function x)
-call_dec G p a e is (inl (t, h)) go = by_items (go t)
+pub call_dec : (G : Sc) (p : Place) (a : Bool) (e : Ex) (s : Sigil) (is : Its) → Dec G e → ((t : Cn) → ItemsOut G (place_of e) t is) → Dec G (node p a (call e s is))
+call_dec G p a e s is (inr x) go = inr (part_fails tells.function x)
+call_dec G p a e s is (inl (t, h)) go = by_items (go t)
   where
-    by_items : ItemsOut G (place_of e) t is → Dec G (node p a (call e is))
+    by_items : ItemsOut G (place_of e) t is → Dec G (node p a (call e s is))
     by_items (leads u l) = inl (u, call_has h l)
     by_items (item_fault f x) = inr (own_fails (own.an_item (bare h) x))
     by_items (item_part d i x) = inr (part_fails (tells.argument i) x)
@@ -196,6 +197,14 @@ folder_dec G p a k ps None h x = inr (own_fails (own.no_folder h))
 folder_dec G p a k ps (Some s) h (inr l) = let (f, x) = l p in inr (own_fails (own.folder_kind x))
 folder_dec G p a k ps (Some s) h (inl x) = inl (_, folder_has h x)
 
+-- literals and forms of SQL
+pub literal_dec : (G : Sc) (p : Place) (a : Bool) (c u : Cn) (xs : Xs) → Kds G c (row_of units) → Kds G u (row_of types) → NodesOut G c u xs → Dec G (node p a (literal c u xs))
+literal_dec G p a c u xs (inr l) k r = let (f, x) = l p in inr (own_fails (own.literal_context x))
+literal_dec G p a c u xs (inl k) (inr l) r = let (f, x) = l p in inr (own_fails (own.literal_uses x))
+literal_dec G p a c u xs (inl k) (inl l) (all_nodes b h) = inl (_, literal_has k l h)
+literal_dec G p a c u xs (inl k) (inl l) (node_fault f x) = inr (own_fails (own.literal_node k l x))
+literal_dec G p a c u xs (inl k) (inl l) (node_part e i x) = inr (part_fails (tells.literal_node i) x)
+
 -- a part first, and what follows where it is found
 pub after_part : {G : Sc} {e c : Ex} → Sub G e G c → Dec G c → ((t : Cn) → FoundBy Covers G c t → Dec G e) → Dec G e
 after_part s (inr x) go = inr (part_fails s x)
@@ -214,10 +223,10 @@ mutual
   decide D L G (node p a (number z)) = inl (_, number_has)
   decide D L G (node p a (text w)) = inl (_, text_has)
   decide D L G (node p a (built s j)) = built_dec G p a s j (datatype_of G.datatypes s) refl
-  decide D L G (node p a (fn q w t e)) = fn_dec D G p a q w t e (kinding G t types) (pattern_dec G q t) (λ ts. decide D L (under ts G) e)
-  decide D L G (node p a (fn_con x i w k e)) = con_fn_dec G p a x i w k e (decide D L (under_con k G) e)
+  decide D L G (node p a (fn q t e)) = fn_dec D G p a q t e (kinding G t types) (pattern_dec G q t) (λ ts. decide D L (under ts G) e)
+  decide D L G (node p a (fn_con x i w k e)) = con_fn_dec G p a x i w k e (decide D L (under_con x k G) e)
   decide D L G (node p a (fn_guard c d e)) = guard_fn_dec G p a c d e (guard_forms G.kinds c d) refl (λ m n. decide D L (under_guard m n G) e)
-  decide D L G (node p a (call f is)) = call_dec G p a f is (decide D L G f) (λ t. decide_items D L G (place_of f) t is)
+  decide D L G (node p a (call f s is)) = call_dec G p a f s is (decide D L G f) (λ t. decide_items D L G (place_of f) t is)
   decide D L G (node p a (let_in ls e)) = let_dec G p a ls e (decide_locals D L G ls) (λ H. decide D L H e)
   decide D L G (node p a (case_of e q r b bs)) = case_dec D G p a e q r b bs (decide D L G e) (λ ts. decide D L (under ts G) b) (λ t u. decide_branches D L G t u bs)
   decide D L G (node p a (ascribed e t)) = ascribed_dec G p a e t (written_dec G G p t e (kinding G t types) (decide D L G e))
@@ -228,6 +237,8 @@ mutual
   decide D L G (node p a (without_row e c)) = after_part tells.row_cut_from (decide D L G e) (λ t f. row_dec G p a e c t f (record_head t) (kinding G c (row_of types)) (normal_forms comparison_units t c) refl)
   decide D L G (node p a (folder k ps)) = folder_dec G p a k ps (folder_of G.folders k) refl (kinding G (row k ps) (row_of k))
   decide D L G (node p a (element (tagged g n c u as' xs))) = element_dec G p a g n c u as' xs (tagged_dec G p g n c u as' xs (decide_attributes D L G u g as') (decide_first D L G xs) (λ d v. decide_nodes D L G d v xs))
+  decide D L G (node p a (literal c u xs)) = literal_dec G p a c u xs (kinding G c (row_of units)) (kinding G u (row_of types)) (decide_nodes D L G c u xs)
+  decide D L G (node p a (sql k es)) = inr (own_fails own.no_rule)
 
   decide_items : CoverIsDecided → LinksAreDecided → (G : Sc) (at : Place) (t : Cn) (is : Its) → ItemsOut G at t is
   decide_items D L G at t no_items = leads t at_end
@@ -258,11 +269,12 @@ mutual
 
   decide_first : CoverIsDecided → LinksAreDecided → (G : Sc) (xs : Xs) → FirstNode G xs
   decide_first D L G no_nodes = tt
-  decide_first D L G (a_node e xs) = decide D L G e
+  decide_first D L G (a_node b e xs) = decide D L G e
 
   decide_nodes : CoverIsDecided → LinksAreDecided → (G : Sc) (c u : Cn) (xs : Xs) → NodesOut G c u xs
   decide_nodes D L G c u no_nodes = all_nodes _ no_node_found
-  decide_nodes D L G c u (a_node e xs) = node_dec G c u e xs (decide D L G e) (λ b. decide_nodes D L G c (ordered (cat u b)) xs)
+  decide_nodes D L G c u (a_node b e no_nodes) = last_dec G c u b e (kinding G b (row_of types)) (decide D L G e)
+  decide_nodes D L G c u (a_node b e (a_node h d xs)) = node_dec G c u b h e d xs (kinding G b (row_of types)) (decide D L G e) (decide_nodes D L G c (ordered (cat u b)) (a_node h d xs))
 
 pub found_or_fails : FoundOrFails
 found_or_fails D L G e = decide D L G e

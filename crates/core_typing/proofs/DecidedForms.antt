@@ -23,7 +23,7 @@ use Rattle.core_typing.specs.Faults.{Fault}
 use Rattle.core_typing.specs.Faults as fault
 use Rattle.core_typing.specs.PatternFaults.{Constructs, AtData}
 use Rattle.core_typing.specs.Found.{FoundBy, Found}
-use Rattle.core_typing.specs.Own.{place_of, any_function, any_poly, any_guarded, any_record, Wants, NotOf, other_form, large_form, IsFunction, IsPoly, IsGuarded, IsRecord, IsTree, Meets, they_touch, they_are_large, Uncovered, CallsTop, top_alone, top_called, NotLinked, ItemFault, NamedFault, LocalFault, BranchFault, BranchDiffers, FieldFault, AttributeFault, SecondAt, AttributeTwice, NodeFault, NotWords, NotHeld, held_there, large_there, ElementFault, PatsFound, no_pats, a_pat, Own}
+use Rattle.core_typing.specs.Own.{place_of, any_function, any_poly, any_guarded, any_record, Wants, NotOf, other_form, large_form, IsFunction, IsPoly, IsGuarded, IsRecord, Meets, they_touch, they_are_large, Uncovered, CallsTop, top_alone, top_called, NotLinked, ItemFault, NamedFault, LocalFault, BranchFault, BranchDiffers, FieldFault, AttributeFault, SecondAt, AttributeTwice, NodeFault, NotWords, NotHeld, held_there, large_there, ElementFault, PatsFound, no_pats, a_pat, Own}
 use Rattle.core_typing.specs.Own as own
 use Rattle.core_typing.specs.Tells.{Sub, Fails, itself, inside}
 use Rattle.core_typing.proofs.FoundLess.{found_asking_less}
@@ -82,15 +82,15 @@ pub compare : (t u : Cn) → Compared t u
 compare t u = by_forms t u (normal_forms comparison_units t u) refl
 
 -- wanted, or what is told
-pub wanted : (p : Place) (t u : Cn) → Alike t u ⊎ Told (Wants p t u)
-wanted p t u = by_compared (compare t u)
+pub wanted : (G : Sc) (p : Place) (t u : Cn) → Alike t u ⊎ Told (Wants G p t u)
+wanted G p t u = by_compared (compare t u)
   where
-    by_compared : Compared t u → Alike t u ⊎ Told (Wants p t u)
+    by_compared : Compared t u → Alike t u ⊎ Told (Wants G p t u)
     by_compared (alike a) = inl a
-    by_compared (differs m n d) = inr (fault.mismatch p m n, own.other d)
+    by_compared (differs m n d) = inr (fault.mismatch p G.called m n, own.other d)
     by_compared (is_large l) = inr (fault.too_large p, own.large l)
 
-pub not_alike : {p : Place} {t u : Cn} → Told (Wants p t u) → Alike t u → ⊥
+pub not_alike : {G : Sc} {p : Place} {t u : Cn} → Told (Wants G p t u) → Alike t u → ⊥
 not_alike (f, own.other d) a = differ_out a d
 not_alike (f, own.large l) a = large_out a l
 
@@ -100,7 +100,7 @@ kind_found {G} {c} {k} (Ok l) e =
     let w = follows (judged G.kinds c) (expects k) l e in
     let (i, j) = expected k w.x l w.then' in
     inl (has (e ∙ ap (λ z. Ok z) (sym (i ∙ j))))
-kind_found (Err w) e = inr (λ p. (flaw_at p w, lacks e))
+kind_found {G} (Err w) e = inr (λ p. (flaw_at p G.called w, lacks e))
 
 pub kinding : (G : Sc) (c : Cn) (k : Kd) → HasKind G c k ⊎ ((p : Place) → Told (LacksKind G p c k))
 kinding G c k = kind_found (judged_at G.kinds c k) refl
@@ -113,7 +113,7 @@ touching G p a b (Ok x) (Some w) h e g = by_touch (first_touch G.kinds.guards x.
   where
     by_touch : (t : Option (Cn × Cn)) → first_touch G.kinds.guards x.0 x.1 ≡ t → touch_flaw t ≡ Some w → Disjoint G.kinds.guards a b ⊎ Told (Meets G p a b)
     by_touch None k i = cc
-    by_touch (Some y) k i = let j : pieces_touch y.0 y.1 ≡ w = cc in inr (fault.not_disjoint p y.0 y.1, they_touch (e ∙ ap (λ z. Some z) (sym j)))
+    by_touch (Some y) k i = let j : pieces_touch y.0 y.1 ≡ w = cc in inr (fault.not_disjoint p G.called y.0 y.1, they_touch (e ∙ ap (λ z. Some z) (sym j)))
 
 pub apartness : (G : Sc) (p : Place) (a b : Cn) → Disjoint G.kinds.guards a b ⊎ Told (Meets G p a b)
 apartness G p a b = touching G p a b (normal_forms comparison_units a b) (not_apart G.kinds.guards a b) refl refl refl

@@ -1,14 +1,14 @@
 -- Lists of parts are found, or have a fault, or a part has one.
 use Rattle.std.proofs.Common.{◌≡◌, ℕ, Bool, true, false, ◌==◌, List, [], ◌∷◌, Option, Some, None, refl, ap, ◌∙◌, subst, ◌⊎◌, inl, inr}
 use Rattle.std.proofs.lemmas.Bool.Decides.{Decides-eqb}
-use Rattle.con_terms.specs.Trees.{types, names, Cn, arrow, poly, guarded, cat, Prs}
+use Rattle.con_terms.specs.Trees.{types, names, Cn, arrow, poly, guarded, cat, Prs, row_of}
 use Rattle.con_terms.specs.Substitution.{subst as put}
 use Rattle.con_terms.specs.declared.place.Place.{Place}
 use Rattle.row_normal.specs.Ordered.{ordered}
 use Rattle.core_terms.specs.declared.markup.TagName.{TagName}
 use Rattle.core_terms.specs.declared.markup.AttrName.{AttrName}
 use Rattle.core_terms.specs.declared.markup.AttrName.TheVariants as attr
-use Rattle.core_terms.specs.Trees.{Pt, Ex, node, bound, top, foreign, basis, fold_over, number, text, built, fn, fn_con, fn_guard, call, let_in, case_of, ascribed, fields_of, select, concat, without, without_row, folder, element, Its, with_term, with_con, with_guard, Nms, named, Los, local_val, local_rec, Brs, branch, Fds, field, Ats, no_attributes, attribute, Xs, a_node}
+use Rattle.core_terms.specs.Trees.{Pt, Ex, node, bound, top, foreign, basis, fold_over, number, text, built, fn, fn_con, fn_guard, call, let_in, case_of, ascribed, fields_of, select, concat, without, without_row, folder, element, Its, with_term, with_con, with_guard, Nms, named, Los, local_val, local_rec, Brs, branch, Fds, field, Ats, no_attributes, attribute, Xs, a_node, literal, sql, no_nodes}
 use Rattle.core_terms.specs.Types.{xml_of}
 use Rattle.core_typing.specs.Scopes.{Sc, under, normal_of}
 use Rattle.core_typing.specs.Cover.{Covers}
@@ -20,16 +20,17 @@ use Rattle.core_typing.specs.Judged.{HasKind, LacksKind}
 use Rattle.core_typing.specs.Faults.{Fault}
 use Rattle.core_typing.specs.Faults as fault
 use Rattle.core_typing.specs.PatternFaults.{PatFound}
-use Rattle.core_typing.specs.Found.{FoundBy, Found, Leads, past_term, past_con, past_guard, EachFound, branch_found, FieldsFound, field_found, LocalsFound, val_found, rec_found, NamedFound, name_found, AttributesFound, attribute_found, NodesFound, node_found}
-use Rattle.core_typing.specs.Own.{place_of, type_place, any_function, any_poly, any_guarded, any_record, Wants, NotOf, other_form, large_form, IsFunction, IsPoly, IsGuarded, IsRecord, IsTree, Meets, they_touch, they_are_large, Uncovered, CallsTop, top_alone, top_called, NotLinked, ItemFault, NamedFault, LocalFault, BranchFault, BranchDiffers, FieldFault, AttributeFault, SecondAt, AttributeTwice, NodeFault, NotWords, NotHeld, held_there, large_there, ElementFault, PatsFound, no_pats, a_pat, Own}
+use Rattle.core_typing.specs.Found.{FoundBy, Found, Leads, past_term, past_con, past_guard, EachFound, branch_found, FieldsFound, field_found, LocalsFound, val_found, rec_found, NamedFound, name_found, AttributesFound, attribute_found, NodesFound, node_found, last_found}
+use Rattle.core_typing.specs.Own.{place_of, type_place, any_function, any_poly, any_guarded, any_record, Wants, NotOf, other_form, large_form, IsFunction, IsPoly, IsGuarded, IsRecord, Meets, they_touch, they_are_large, Uncovered, CallsTop, top_alone, top_called, NotLinked, ItemFault, NamedFault, LocalFault, BranchFault, BranchDiffers, FieldFault, AttributeFault, SecondAt, AttributeTwice, NodeFault, NotWords, NotHeld, held_there, large_there, ElementFault, PatsFound, no_pats, a_pat, Own, is_implicit}
 use Rattle.core_typing.specs.Own as own
 use Rattle.core_typing.specs.Tells.{InItems, InFields, InBranches, InNamed, InLocals, Behind, InAttributes, InNodes, Sub, Fails, itself, inside}
 use Rattle.core_typing.specs.Tells as tells
 use Rattle.core_typing.specs.FaultLaws.{LinksAreDecided}
 use Rattle.core_typing.proofs.FoundLess.{nodes_less}
-use Rattle.core_typing.proofs.Shapes.{is_tree, attr_code, same_name}
-use Rattle.core_typing.proofs.DecidedForms.{Fd, Fl, Told, bare, wanted, kinding, apartness, Head, no_form, head, no_head, head_of}
+use Rattle.core_typing.proofs.Shapes.{attr_code, same_name}
+use Rattle.core_typing.proofs.DecidedForms.{Fd, Fl, Told, bare, wanted, kinding, apartness, Head, no_form, head, no_head}
 use Rattle.core_typing.proofs.DecidedPatterns.{PatDec, Kds}
+use Rattle.core_terms.specs.declared.exp.ConOrigin.{ConOrigin}
 
 -- the lists of parts
 pub data ItemsOut (G : Sc) (at : Place) (t : Cn) (is : Its) : Type 0 where
@@ -72,9 +73,9 @@ pub data NodesOut (G : Sc) (c u : Cn) (xs : Xs) : Type 0 where
 -- items
 pub term_dec : (G : Sc) (at : Place) (t : Cn) (e : Ex) (is : Its) → Head IsFunction t → Fd G e ⊎ Fl G e → ((d : Cn) → ItemsOut G at d is) → ItemsOut G at t (with_term e is)
 term_dec G at t e is (no_form h) x go = item_fault (fault.too_large at) (own.no_function (large_form h))
-term_dec G at t e is (no_head n h none) x go = item_fault (fault.mismatch at any_function n) (own.no_function (other_form h none))
+term_dec G at t e is (no_head n h none) x go = item_fault (fault.mismatch at G.called any_function n) (own.no_function (other_form h none))
 term_dec G at t e is (head n h (u, d, i)) (inr x) go = item_part e tells.this_item x
-term_dec G at t e is (head n h (u, d, i)) (inl (c, f)) go = by_want (wanted (place_of e) u c)
+term_dec G at t e is (head n h (u, d, i)) (inl (c, f)) go = by_want (wanted G (place_of e) u c)
   where
     at_arrow : normal_of t ≡ Some (arrow u d)
     at_arrow = h ∙ ap (λ z. Some z) i
@@ -84,13 +85,13 @@ term_dec G at t e is (head n h (u, d, i)) (inl (c, f)) go = by_want (wanted (pla
     by_rest a (item_fault g x) = item_fault g (own.after_term at_arrow (bare f) a x)
     by_rest a (item_part b y x) = item_part b (tells.past_item y) x
 
-    by_want : Alike u c ⊎ Told (Wants (place_of e) u c) → ItemsOut G at t (with_term e is)
+    by_want : Alike u c ⊎ Told (Wants G (place_of e) u c) → ItemsOut G at t (with_term e is)
     by_want (inl a) = by_rest a (go d)
     by_want (inr (g, w)) = item_fault g (own.argument at_arrow (bare f) w)
 
-pub con_dec : (G : Sc) (at p : Place) (a : Bool) (t c : Cn) (is : Its) → Head IsPoly t → ((d : Cn) → ItemsOut G at d is) → ItemsOut G at t (with_con p a c is)
+pub con_dec : (G : Sc) (at p : Place) (a : ConOrigin) (t c : Cn) (is : Its) → Head IsPoly t → ((d : Cn) → ItemsOut G at d is) → ItemsOut G at t (with_con p a c is)
 con_dec G at p a t c is (no_form h) go = item_fault (fault.too_large at) (own.no_poly (large_form h))
-con_dec G at p a t c is (no_head n h none) go = item_fault (fault.mismatch at (any_poly a) n) (own.no_poly (other_form h none))
+con_dec G at p a t c is (no_head n h none) go = item_fault (fault.mismatch at G.called (any_poly (is_implicit a)) n) (own.no_poly (other_form h none))
 con_dec G at p a t c is (head n h (i, k, d, j)) go = by_kind (kinding G c k)
   where
     at_poly : normal_of t ≡ Some (poly i k d)
@@ -107,7 +108,7 @@ con_dec G at p a t c is (head n h (i, k, d, j)) go = by_kind (kinding G c k)
 
 pub guard_dec : (G : Sc) (at p : Place) (a : Bool) (t : Cn) (is : Its) → Head IsGuarded t → ((d : Cn) → ItemsOut G at d is) → ItemsOut G at t (with_guard p a is)
 guard_dec G at p a t is (no_form h) go = item_fault (fault.too_large at) (own.no_guard (large_form h))
-guard_dec G at p a t is (no_head n h none) go = item_fault (fault.mismatch at any_guarded n) (own.no_guard (other_form h none))
+guard_dec G at p a t is (no_head n h none) go = item_fault (fault.mismatch at G.called any_guarded n) (own.no_guard (other_form h none))
 guard_dec G at p a t is (head n h (c, d, b, j)) go = by_apart (apartness G p c d)
   where
     at_guarded : normal_of t ≡ Some (guarded c d b)
@@ -126,15 +127,15 @@ guard_dec G at p a t is (head n h (c, d, b, j)) go = by_apart (apartness G p c d
 pub data WrittenOut (G H : Sc) (p : Place) (t : Cn) (e : Ex) : Type 0 where
   as_written : (u : Cn) → HasKind G t types → FoundBy Covers H e u → Alike t u → WrittenOut G H p t e
   bad_kind : (f : Fault) → LacksKind G p t types f → WrittenOut G H p t e
-  bad_type : (u : Cn) (f : Fault) → HasKind G t types → Found H e u → Wants (place_of e) t u f → WrittenOut G H p t e
+  bad_type : (u : Cn) (f : Fault) → HasKind G t types → Found H e u → Wants G (place_of e) t u f → WrittenOut G H p t e
   bad_term : Fl H e → WrittenOut G H p t e
 
 pub written_dec : (G H : Sc) (p : Place) (t : Cn) (e : Ex) → Kds G t types → Fd H e ⊎ Fl H e → WrittenOut G H p t e
 written_dec G H p t e (inr l) x = let (f, y) = l p in bad_kind f y
 written_dec G H p t e (inl k) (inr x) = bad_term x
-written_dec G H p t e (inl k) (inl (u, h)) = by_want (wanted (place_of e) t u)
+written_dec G H p t e (inl k) (inl (u, h)) = by_want (wanted G (place_of e) t u)
   where
-    by_want : Alike t u ⊎ Told (Wants (place_of e) t u) → WrittenOut G H p t e
+    by_want : Alike t u ⊎ Told (Wants G (place_of e) t u) → WrittenOut G H p t e
     by_want (inl a) = as_written u k h a
     by_want (inr (f, w)) = bad_type u f k (bare h) w
 
@@ -166,7 +167,7 @@ pub branch_dec : (G : Sc) (t u : Cn) (p : Place) (q : Pt) (e : Ex) (bs : Brs) �
 branch_dec G t u p q e bs (inr (f, h)) go r = pattern_fault f (own.branch_pattern h)
 branch_dec G t u p q e bs (inl (ts, h)) go r = by_body (go ts) r
   where
-    by_want : (v : Cn) → FoundBy Covers (under ts G) e v → Alike u v ⊎ Told (Wants (place_of e) u v) → BranchesOut G t u bs → BranchesOut G t u (branch p q e bs)
+    by_want : (v : Cn) → FoundBy Covers (under ts G) e v → Alike u v ⊎ Told (Wants G (place_of e) u v) → BranchesOut G t u bs → BranchesOut G t u (branch p q e bs)
     by_want v b (inr (f, w)) r = body_fault f (own.this_differs h (bare b) w)
     by_want v b (inl a) (all_branches es ps) = all_branches (branch_found h b a es) (a_pat h ps)
     by_want v b (inl a) (pattern_fault f y) = pattern_fault f (own.later_pattern y)
@@ -175,7 +176,7 @@ branch_dec G t u p q e bs (inl (ts, h)) go r = by_body (go ts) r
 
     by_body : Fd (under ts G) e ⊎ Fl (under ts G) e → BranchesOut G t u bs → BranchesOut G t u (branch p q e bs)
     by_body (inr x) r = branch_part q e ts tells.this_branch h x
-    by_body (inl (v, b)) r = by_want v b (wanted (place_of e) u v) r
+    by_body (inl (v, b)) r = by_want v b (wanted G (place_of e) u v) r
 
 -- fields
 pub record_field_dec : (G : Sc) (p : Place) (n : Cn) (e : Ex) (fs : Fds) → Kds G n names → Fd G e ⊎ Fl G e → FieldsOut G fs → FieldsOut G (field p n e fs)
@@ -208,7 +209,7 @@ second_dec n (attribute p m e as') = by_name (attr_code n == attr_code m) refl (
 
 pub calls_dec : (e : Ex) → CallsTop e ⊎ (CallsTop e → ⊥)
 calls_dec (node p a (top i)) = inl top_alone
-calls_dec (node p a (call (node q b (top i)) is)) = inl top_called
+calls_dec (node p a (call (node q b (top i)) g is)) = inl top_called
 calls_dec (node p a2 (bound i)) = inr (λ h. elim h [ ])
 calls_dec (node p a2 (foreign i)) = inr (λ h. elim h [ ])
 calls_dec (node p a2 (basis b)) = inr (λ h. elim h [ ])
@@ -216,7 +217,7 @@ calls_dec (node p a2 (fold_over k)) = inr (λ h. elim h [ ])
 calls_dec (node p a2 (number z)) = inr (λ h. elim h [ ])
 calls_dec (node p a2 (text t)) = inr (λ h. elim h [ ])
 calls_dec (node p a2 (built s j)) = inr (λ h. elim h [ ])
-calls_dec (node p a2 (fn q w t e)) = inr (λ h. elim h [ ])
+calls_dec (node p a2 (fn q t e)) = inr (λ h. elim h [ ])
 calls_dec (node p a2 (fn_con x i w k e)) = inr (λ h. elim h [ ])
 calls_dec (node p a2 (fn_guard c d e)) = inr (λ h. elim h [ ])
 calls_dec (node p a2 (let_in ls e)) = inr (λ h. elim h [ ])
@@ -229,27 +230,31 @@ calls_dec (node p a2 (without e c)) = inr (λ h. elim h [ ])
 calls_dec (node p a2 (without_row e c)) = inr (λ h. elim h [ ])
 calls_dec (node p a2 (folder k ps)) = inr (λ h. elim h [ ])
 calls_dec (node p a2 (element m)) = inr (λ h. elim h [ ])
-calls_dec (node p a2 (call (node q2 b2 (bound i)) js)) = inr (λ h. elim h [ ])
-calls_dec (node p a2 (call (node q2 b2 (foreign i)) js)) = inr (λ h. elim h [ ])
-calls_dec (node p a2 (call (node q2 b2 (basis b)) js)) = inr (λ h. elim h [ ])
-calls_dec (node p a2 (call (node q2 b2 (fold_over k)) js)) = inr (λ h. elim h [ ])
-calls_dec (node p a2 (call (node q2 b2 (number z)) js)) = inr (λ h. elim h [ ])
-calls_dec (node p a2 (call (node q2 b2 (text t)) js)) = inr (λ h. elim h [ ])
-calls_dec (node p a2 (call (node q2 b2 (built s j)) js)) = inr (λ h. elim h [ ])
-calls_dec (node p a2 (call (node q2 b2 (fn q w t e)) js)) = inr (λ h. elim h [ ])
-calls_dec (node p a2 (call (node q2 b2 (fn_con x i w k e)) js)) = inr (λ h. elim h [ ])
-calls_dec (node p a2 (call (node q2 b2 (fn_guard c d e)) js)) = inr (λ h. elim h [ ])
-calls_dec (node p a2 (call (node q2 b2 (let_in ls e)) js)) = inr (λ h. elim h [ ])
-calls_dec (node p a2 (call (node q2 b2 (case_of e q r d bs)) js)) = inr (λ h. elim h [ ])
-calls_dec (node p a2 (call (node q2 b2 (ascribed e t)) js)) = inr (λ h. elim h [ ])
-calls_dec (node p a2 (call (node q2 b2 (fields_of fs)) js)) = inr (λ h. elim h [ ])
-calls_dec (node p a2 (call (node q2 b2 (select e c)) js)) = inr (λ h. elim h [ ])
-calls_dec (node p a2 (call (node q2 b2 (concat e d)) js)) = inr (λ h. elim h [ ])
-calls_dec (node p a2 (call (node q2 b2 (without e c)) js)) = inr (λ h. elim h [ ])
-calls_dec (node p a2 (call (node q2 b2 (without_row e c)) js)) = inr (λ h. elim h [ ])
-calls_dec (node p a2 (call (node q2 b2 (folder k ps)) js)) = inr (λ h. elim h [ ])
-calls_dec (node p a2 (call (node q2 b2 (element m)) js)) = inr (λ h. elim h [ ])
-calls_dec (node p a2 (call (node q2 b2 (call f is)) js)) = inr (λ h. elim h [ ])
+calls_dec (node p a2 (literal c u xs)) = inr (λ h. elim h [ ])
+calls_dec (node p a2 (sql k es)) = inr (λ h. elim h [ ])
+calls_dec (node p a2 (call (node q2 b2 (bound i)) g js)) = inr (λ h. elim h [ ])
+calls_dec (node p a2 (call (node q2 b2 (foreign i)) g js)) = inr (λ h. elim h [ ])
+calls_dec (node p a2 (call (node q2 b2 (basis b)) g js)) = inr (λ h. elim h [ ])
+calls_dec (node p a2 (call (node q2 b2 (fold_over k)) g js)) = inr (λ h. elim h [ ])
+calls_dec (node p a2 (call (node q2 b2 (number z)) g js)) = inr (λ h. elim h [ ])
+calls_dec (node p a2 (call (node q2 b2 (text t)) g js)) = inr (λ h. elim h [ ])
+calls_dec (node p a2 (call (node q2 b2 (built s j)) g js)) = inr (λ h. elim h [ ])
+calls_dec (node p a2 (call (node q2 b2 (fn q t e)) g js)) = inr (λ h. elim h [ ])
+calls_dec (node p a2 (call (node q2 b2 (fn_con x i w k e)) g js)) = inr (λ h. elim h [ ])
+calls_dec (node p a2 (call (node q2 b2 (fn_guard c d e)) g js)) = inr (λ h. elim h [ ])
+calls_dec (node p a2 (call (node q2 b2 (let_in ls e)) g js)) = inr (λ h. elim h [ ])
+calls_dec (node p a2 (call (node q2 b2 (case_of e q r d bs)) g js)) = inr (λ h. elim h [ ])
+calls_dec (node p a2 (call (node q2 b2 (ascribed e t)) g js)) = inr (λ h. elim h [ ])
+calls_dec (node p a2 (call (node q2 b2 (fields_of fs)) g js)) = inr (λ h. elim h [ ])
+calls_dec (node p a2 (call (node q2 b2 (select e c)) g js)) = inr (λ h. elim h [ ])
+calls_dec (node p a2 (call (node q2 b2 (concat e d)) g js)) = inr (λ h. elim h [ ])
+calls_dec (node p a2 (call (node q2 b2 (without e c)) g js)) = inr (λ h. elim h [ ])
+calls_dec (node p a2 (call (node q2 b2 (without_row e c)) g js)) = inr (λ h. elim h [ ])
+calls_dec (node p a2 (call (node q2 b2 (folder k ps)) g js)) = inr (λ h. elim h [ ])
+calls_dec (node p a2 (call (node q2 b2 (element m)) g js)) = inr (λ h. elim h [ ])
+calls_dec (node p a2 (call (node q2 b2 (literal c u xs)) g js)) = inr (λ h. elim h [ ])
+calls_dec (node p a2 (call (node q2 b2 (sql k es)) g js)) = inr (λ h. elim h [ ])
+calls_dec (node p a2 (call (node q2 b2 (call f s is)) g js)) = inr (λ h. elim h [ ])
 
 pub not_linked_dec : (G : Sc) (p : Place) (n : AttrName) (t v : Cn) (e : Ex) → Found G e v → Alike t v → (IsLinked G n e → ⊥) → CallsTop e ⊎ (CallsTop e → ⊥) → Told (NotLinked G p n t e)
 not_linked_dec G p n t v e f a none (inl c) = (fault.not_serialisable p, own.not_carried c f a none)
@@ -266,7 +271,7 @@ not_linked_dec G p attr.Size t v e f a none (inr d) = absurd (none typed.as_size
 pub attribute_dec : LinksAreDecided → (G : Sc) (u : Cn) (g : TagName) (p : Place) (n : AttrName) (e : Ex) (as' : Ats) → (o : Option Cn) → attribute_type u g n ≡ o → Fd G e ⊎ Fl G e → SecondOut n as' → AttributesOut G u g as' → AttributesOut G u g (attribute p n e as')
 attribute_dec links G u g p n e as' None h x s r = attribute_fault (fault.unbound p (fault.an_attribute n)) (own.no_attribute h)
 attribute_dec links G u g p n e as' (Some t) h (inr x) s r = attribute_part e tells.this_attribute x
-attribute_dec links G u g p n e as' (Some t) h (inl (v, f)) s r = by_want (wanted (place_of e) t v)
+attribute_dec links G u g p n e as' (Some t) h (inl (v, f)) s r = by_want (wanted G (place_of e) t v)
   where
     by_rest : Alike t v → IsLinked G n e → SecondOut n as' → AttributesOut G u g as' → AttributesOut G u g (attribute p n e as')
     by_rest a l (second x y) r = twice_fault x (own.second_of y)
@@ -279,38 +284,38 @@ attribute_dec links G u g p n e as' (Some t) h (inl (v, f)) s r = by_want (wante
     by_link a (inl l) = by_rest a l s r
     by_link a (inr none) = let (x, y) = not_linked_dec G p n t v e (bare f) a none (calls_dec e) in attribute_fault x (own.not_linked h y)
 
-    by_want : Alike t v ⊎ Told (Wants (place_of e) t v) → AttributesOut G u g (attribute p n e as')
+    by_want : Alike t v ⊎ Told (Wants G (place_of e) t v) → AttributesOut G u g (attribute p n e as')
     by_want (inr (x, w)) = attribute_fault x (own.attribute_differs h (bare f) w)
     by_want (inl a) = by_link a (links G n e)
 
 -- nodes
-pub no_tree_dec : (G : Sc) (c u t n : Cn) (e : Ex) (xs : Xs) → Found G e t → normal_of t ≡ Some n → (IsTree n → ⊥) → (o q : Option Cn) → normal_of c ≡ o → normal_of u ≡ q → NodesOut G c u (a_node e xs)
-no_tree_dec G c u t n e xs f h none (Some k) (Some v) i j = node_fault _ (own.no_tree f h none i j)
-no_tree_dec G c u t n e xs f h none None q i j = node_fault _ (own.no_tree_in_large f h none (inl i))
-no_tree_dec G c u t n e xs f h none (Some k) None i j = node_fault _ (own.no_tree_in_large f h none (inr j))
-
-pub node_dec : (G : Sc) (c u : Cn) (e : Ex) (xs : Xs) → Fd G e ⊎ Fl G e → ((b : Cn) → NodesOut G c (ordered (cat u b)) xs) → NodesOut G c u (a_node e xs)
-node_dec G c u e xs (inr x) go = node_part e tells.this_node x
-node_dec G c u e xs (inl (t, f)) go = by_head (head_of IsTree is_tree t (normal_of t) refl)
+pub last_dec : (G : Sc) (c u b : Cn) (e : Ex) → Kds G b (row_of types) → Fd G e ⊎ Fl G e → NodesOut G c u (a_node b e no_nodes)
+last_dec G c u b e (inr l) x = let (f, y) = l (place_of e) in node_fault f (own.fills_kind y)
+last_dec G c u b e (inl k) (inr x) = node_part e tells.this_node x
+last_dec G c u b e (inl k) (inl (t, f)) = by_want (wanted G (place_of e) (xml_of c u b) t)
   where
-    by_behind : (m v b d : Cn) → normal_of t ≡ Some (xml_of m v b) → Alike (xml_of c u b) t → Disjoint G.kinds.guards u b → NodesFound Covers G c (ordered (cat u b)) xs d → Disjoint G.kinds.guards b d ⊎ Told (Meets G (place_of e) b d) → NodesOut G c u (a_node e xs)
-    by_behind m v b d h a x r (inl y) = all_nodes (ordered (cat b d)) (node_found f h a x r y)
-    by_behind m v b d h a x r (inr (g, y)) = node_fault g (own.filled_behind (bare f) h (nodes_less (λ ds ps w z. tt) r) y)
+    by_want : Alike (xml_of c u b) t ⊎ Told (Wants G (place_of e) (xml_of c u b) t) → NodesOut G c u (a_node b e no_nodes)
+    by_want (inl a) = all_nodes b (last_found k f a)
+    by_want (inr (g, w)) = node_fault g (own.other_place k (bare f) w)
 
-    by_rest : (m v b : Cn) → normal_of t ≡ Some (xml_of m v b) → Alike (xml_of c u b) t → Disjoint G.kinds.guards u b → NodesOut G c (ordered (cat u b)) xs → NodesOut G c u (a_node e xs)
-    by_rest m v b h a x (all_nodes d r) = by_behind m v b d h a x r (apartness G (place_of e) b d)
-    by_rest m v b h a x (node_fault g y) = node_fault g (own.later_node (bare f) h y)
-    by_rest m v b h a x (node_part d i y) = node_part d (tells.past_node i) y
+pub node_dec : (G : Sc) (c u b h : Cn) (e d : Ex) (xs : Xs) → Kds G b (row_of types) → Fd G e ⊎ Fl G e → NodesOut G c (ordered (cat u b)) (a_node h d xs) → NodesOut G c u (a_node b e (a_node h d xs))
+node_dec G c u b h e d xs (inr l) x r = let (f, y) = l (place_of e) in node_fault f (own.fills_kind y)
+node_dec G c u b h e d xs (inl k) (inr x) r = node_part e tells.this_node x
+node_dec G c u b h e d xs (inl k) (inl (t, f)) r = by_want (wanted G (place_of e) (xml_of c u b) t)
+  where
+    by_behind : (v : Cn) → Alike (xml_of c u b) t → Disjoint G.kinds.guards u b → NodesFound Covers G c (ordered (cat u b)) (a_node h d xs) v → Disjoint G.kinds.guards b v ⊎ Told (Meets G (place_of e) b v) → NodesOut G c u (a_node b e (a_node h d xs))
+    by_behind v a x n (inl y) = all_nodes (ordered (cat b v)) (node_found k f a x n y)
+    by_behind v a x n (inr (g, y)) = node_fault g (own.filled_behind k (nodes_less (λ ds ps w z. tt) n) y)
 
-    by_apart : (m v b : Cn) → normal_of t ≡ Some (xml_of m v b) → Alike (xml_of c u b) t → Disjoint G.kinds.guards u b ⊎ Told (Meets G (place_of e) u b) → NodesOut G c u (a_node e xs)
-    by_apart m v b h a (inl x) = by_rest m v b h a x (go b)
-    by_apart m v b h a (inr (g, x)) = node_fault g (own.filled_before (bare f) h x)
+    by_rest : Alike (xml_of c u b) t → Disjoint G.kinds.guards u b → NodesOut G c (ordered (cat u b)) (a_node h d xs) → NodesOut G c u (a_node b e (a_node h d xs))
+    by_rest a x (all_nodes v n) = by_behind v a x n (apartness G (place_of e) b v)
+    by_rest a x (node_fault g y) = node_fault g (own.later_node k y)
+    by_rest a x (node_part z i y) = node_part z (tells.past_node i) y
 
-    by_want : (m v b : Cn) → normal_of t ≡ Some (xml_of m v b) → Alike (xml_of c u b) t ⊎ Told (Wants (place_of e) (xml_of c u b) t) → NodesOut G c u (a_node e xs)
-    by_want m v b h (inl a) = by_apart m v b h a (apartness G (place_of e) u b)
-    by_want m v b h (inr (g, w)) = node_fault g (own.other_place (bare f) h w)
+    by_apart : Alike (xml_of c u b) t → Disjoint G.kinds.guards u b ⊎ Told (Meets G (place_of e) u b) → NodesOut G c u (a_node b e (a_node h d xs))
+    by_apart a (inl x) = by_rest a x r
+    by_apart a (inr (g, x)) = node_fault g (own.filled_before k x)
 
-    by_head : Head IsTree t → NodesOut G c u (a_node e xs)
-    by_head (no_form h) = node_fault _ (own.large_tree (bare f) h)
-    by_head (no_head n h none) = no_tree_dec G c u t n e xs (bare f) h none (normal_of c) (normal_of u) refl refl
-    by_head (head n h (m, v, b, i)) = by_want m v b (h ∙ ap (λ z. Some z) i) (wanted (place_of e) (xml_of c u b) t)
+    by_want : Alike (xml_of c u b) t ⊎ Told (Wants G (place_of e) (xml_of c u b) t) → NodesOut G c u (a_node b e (a_node h d xs))
+    by_want (inl a) = by_apart a (apartness G (place_of e) u b)
+    by_want (inr (g, w)) = node_fault g (own.other_place k (bare f) w)

@@ -30,22 +30,22 @@ Kds G c k = HasKind G c k ⊎ ((p : Place) → Told (LacksKind G p c k))
 pub binds_dec : (G : Sc) (p : Place) (x : ℕ) (w : Bool) (u t : Cn) → Kds G u types → Compared t u → PatDec G (pattern p (binds x w u)) t
 binds_dec G p x w u t (inr l) c = let (f, h) = l p in inr (f, pat.bad_kind h)
 binds_dec G p x w u t (inl k) (alike a) = inl (u ∷ [], binds_one k a)
-binds_dec G p x w u t (inl k) (differs m n d) = inr (fault.mismatch p m n, pat.other_type k d)
+binds_dec G p x w u t (inl k) (differs m n d) = inr (fault.mismatch p G.called m n, pat.other_type k d)
 binds_dec G p x w u t (inl k) (is_large l) = inr (fault.too_large p, pat.large_type k l)
 
 pub number_dec : (G : Sc) (p : Place) (z : ℤ) (t : Cn) → Compared t int_type → PatDec G (pattern p (is_number z)) t
 number_dec G p z t (alike a) = inl ([], number_binds a)
-number_dec G p z t (differs m n d) = inr (fault.mismatch p m n, pat.no_number d)
+number_dec G p z t (differs m n d) = inr (fault.mismatch p G.called m n, pat.no_number d)
 number_dec G p z t (is_large l) = inr (fault.too_large p, pat.large_number l)
 
 pub text_dec : (G : Sc) (p : Place) (w : List ℕ) (t : Cn) → Compared t string_type → PatDec G (pattern p (is_text w)) t
 text_dec G p w t (alike a) = inl ([], text_binds a)
-text_dec G p w t (differs m n d) = inr (fault.mismatch p m n, pat.no_text d)
+text_dec G p w t (differs m n d) = inr (fault.mismatch p G.called m n, pat.no_text d)
 text_dec G p w t (is_large l) = inr (fault.too_large p, pat.large_text l)
 
 pub holds_dec : (G : Sc) (p : Place) (s j : ℕ) (t : Cn) (c : Cd) (args : List Cn) → AtData G s j t c args → (held : Cn) → c.holds ≡ Some held → (o : Option Cn) → normal_of (held_at args held) ≡ o → PatDec G (pattern p (is_bare s j)) t
 holds_dec G p s j t c args a held e None h = inr (fault.too_large p, pat.holds_too_much a e h)
-holds_dec G p s j t c args a held e (Some m) h = inr (fault.mismatch p a.n (arrow m a.n), pat.holds_more a e a.normal h)
+holds_dec G p s j t c args a held e (Some m) h = inr (fault.mismatch p G.called a.n (arrow m a.n), pat.holds_more a e a.normal h)
 
 pub bare_dec : (G : Sc) (p : Place) (s j : ℕ) (t : Cn) → DataAt G s j t → PatDec G (pattern p (is_bare s j)) t
 bare_dec G p s j t (unknown h) = inr (fault.unbound p (fault.a_constructor s j), pat.no_bare h)
@@ -64,7 +64,7 @@ holding_dec G p s j q t (elsewhere d c n k h g) go = inr (_, pat.other_holding k
 holding_dec G p s j q t (at_data c args a) go = by_holds (c.holds) refl
   where
     by_holds : (o : Option Cn) → c.holds ≡ o → PatDec G (pattern p (is_holding s j q)) t
-    by_holds None e = inr (fault.mismatch p (arrow unit_con a.n) a.n, pat.holds_less a e a.normal)
+    by_holds None e = inr (fault.mismatch p G.called (arrow unit_con a.n) a.n, pat.holds_less a e a.normal)
     by_holds (Some held) e = by_held (go (held_at args held))
       where
         by_held : PatDec G q (held_at args held) → PatDec G (pattern p (is_holding s j q)) t
@@ -87,7 +87,7 @@ record_dec G p fs b t (head n e (r, i)) go = by_fields b (go (ordered_pieces r))
 
 pub annotated_dec : (G : Sc) (p : Place) (q : Pt) (u t : Cn) → Kds G u types → Compared t u → PatDec G q u → PatDec G (pattern p (annotated q u)) t
 annotated_dec G p q u t (inr l) c d = let (f, h) = l p in inr (f, pat.bad_annotation h)
-annotated_dec G p q u t (inl k) (differs m n d) r = inr (fault.mismatch p m n, pat.other_annotation k d)
+annotated_dec G p q u t (inl k) (differs m n d) r = inr (fault.mismatch p G.called m n, pat.other_annotation k d)
 annotated_dec G p q u t (inl k) (is_large l) r = inr (fault.too_large p, pat.large_annotation k l)
 annotated_dec G p q u t (inl k) (alike a) (inl (ts, h)) = inl (ts, annotated_binds k a h)
 annotated_dec G p q u t (inl k) (alike a) (inr (f, h)) = inr (f, pat.in_annotated k h)

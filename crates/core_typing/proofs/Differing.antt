@@ -1,5 +1,5 @@
 -- Lists without repeats, by a test.
-use Rattle.std.proofs.Common.{◌≡◌, ◌≢◌, ℕ, zero, suc, Bool, true, false, ◌==◌, ◌||◌, ◌&&◌, not, List, [], ◌∷◌, Some, slice_get, refl, ap, ◌∙◌}
+use Rattle.std.proofs.Common.{◌≡◌, ◌≢◌, ℕ, zero, suc, Bool, true, false, ◌==◌, ◌||◌, ◌&&◌, not, List, [], ◌∷◌, Some, slice_get, refl, ap, ◌∙◌, arith, length, ◌++◌}
 use Rattle.std.specs.Str.{bytes_eq}
 use Rattle.std.specs.List.{AllByRecursion}
 use Rattle.std.proofs.lemmas.List.Elements.{All-from_recursion}
@@ -79,3 +79,14 @@ no_marks (t ∷ ts) = no_mark t && no_marks ts
 pub all_plain_by_test : (ts : List (List ℕ)) → no_marks ts ≡ true → AllByRecursion IsPlain ts
 all_plain_by_test [] h = tt
 all_plain_by_test (t ∷ ts) h = let (p, q) = both_from (no_mark t) (no_marks ts) h in (plain_by_test t p, all_plain_by_test ts q)
+
+-- of two lists of one length, the one that begins the other is it
+longer_by : {X : Type 0} (xs more ys : List X) → length xs ≡ length ys → xs ++ more ≡ ys → length more ≡ 0
+longer_by [] more [] h e = ap length e
+longer_by [] more (y ∷ ys) h e = absurd (omega (arith, h))
+longer_by (x ∷ xs) more [] h e = absurd (omega (arith, h))
+longer_by (x ∷ xs) more (y ∷ ys) h e = let rest : xs ++ more ≡ ys = cc in longer_by xs more ys (omega (arith, h)) rest
+
+pub none_more : {X : Type 0} (xs ys more : List X) → length xs ≡ length ys → xs ++ more ≡ ys → more ≡ []
+none_more xs ys [] h e = refl
+none_more xs ys (z ∷ more) h e = absurd (omega (arith, longer_by xs (z ∷ more) ys h e))

@@ -1,5 +1,5 @@
 -- What the examples have at fault, and that nothing stands before it.
-use Rattle.std.proofs.Common.{◌≡◌, ℕ, ℤ, Bool, false, [], Option, Some, None, Ok, Err, refl, arith, sym, ◌∙◌, subst, ◌⊎◌, inl, inr}
+use Rattle.std.proofs.Common.{◌≡◌, ℕ, ℤ, Bool, false, [], Option, Some, None, Ok, Err, refl, arith, sym, ◌∙◌, subst, ◌⊎◌, inl, inr, List}
 use Rattle.std.specs.Prelude.{slice_get}
 use Rattle.con_terms.specs.Trees.{Kd, Cn, var, record_of, cat, name, no_pairs, pair}
 use Rattle.con_terms.specs.declared.place.Place.{Place}
@@ -32,11 +32,11 @@ pub not_before : (f : Fault) {p : Place} → at f ≡ p → Earlier (at f) p →
 not_before f {p} e h = not_before_itself p (subst (λ q. Earlier q p) e h)
 
 -- where faults of each kind stand
-pub wants_at : {p : Place} {t u : Cn} {f : Fault} → Wants p t u f → at f ≡ p
+pub wants_at : {G : Sc} {p : Place} {t u : Cn} {f : Fault} → Wants G p t u f → at f ≡ p
 wants_at (other d) = refl
 wants_at (large d) = refl
 
-form_at : {F : Cn → Type 0} {p : Place} {w t : Cn} {f : Fault} → NotOf F p w t f → at f ≡ p
+form_at : {F : Cn → Type 0} {G : Sc} {p : Place} {w t : Cn} {f : Fault} → NotOf F G p w t f → at f ≡ p
 form_at (other_form n d) = refl
 form_at (large_form n) = refl
 
@@ -44,15 +44,15 @@ meets_at : {G : Sc} {p : Place} {a b : Cn} {f : Fault} → Meets G p a b f → a
 meets_at (they_touch t) = refl
 meets_at (they_are_large l) = refl
 
-flaw_place : (p : Place) (w : Flw) → at (flaw_at p w) ≡ p
-flaw_place p (unbound_variable i) = refl
-flaw_place p (unbound_basic s) = refl
-flaw_place p (kinds_differ k l) = refl
-flaw_place p (pieces_touch c d) = refl
-flaw_place p too_large = refl
+flaw_place : (p : Place) (xs : List ℕ) (w : Flw) → at (flaw_at p xs w) ≡ p
+flaw_place p xs (unbound_variable i) = refl
+flaw_place p xs (unbound_basic s) = refl
+flaw_place p xs (kinds_differ k l) = refl
+flaw_place p xs (pieces_touch c d) = refl
+flaw_place p xs too_large = refl
 
 pub kind_at : {G : Sc} {p : Place} {c : Cn} {k : Kd} {f : Fault} → LacksKind G p c k f → at f ≡ p
-kind_at {p = p} (lacks {w = w} e) = flaw_place p w
+kind_at {G} {p = p} (lacks {w = w} e) = flaw_place p G.called w
 
 -- what is found is no flaw
 pub no_flaw : {k : Kd} {w : Flw} → Ok k ≡ Err w → ⊥
@@ -133,7 +133,7 @@ its_form : normal_of (record_of (type_row (pair (name a_name) int_type no_pairs)
 unfolding comparison_units
 its_form = refl
 
-they_meet : Meets basis_scope (byte 8) (type_row (pair (name a_name) int_type no_pairs)) (type_row (pair (name a_name) int_type no_pairs)) (not_disjoint (byte 8) (name a_name) (name a_name))
+they_meet : Meets basis_scope (byte 8) (type_row (pair (name a_name) int_type no_pairs)) (type_row (pair (name a_name) int_type no_pairs)) (not_disjoint (byte 8) [] (name a_name) (name a_name))
 they_meet = they_touch {a = type_row (pair (name a_name) int_type no_pairs)} {b = type_row (pair (name a_name) int_type no_pairs)} they_clash
 
 pub clash_told : SameNamesClash

@@ -12,7 +12,7 @@ use Rattle.core_typing.specs.Scopes.{Sc, under_con}
 use Rattle.core_typing.specs.Cover.{Covers, TooLargeIn, itself, in_held, in_field}
 use Rattle.core_typing.specs.Patterns.{of_binds}
 use Rattle.core_typing.specs.Typed.{by_equal, of_bound, of_fn, of_fn_con, of_call, of_ascribed, to_nothing, to_guard}
-use Rattle.core_typing.specs.ExampleTerms.{basis_scope, options, lists, maps_twice, maps_once, called_x}
+use Rattle.core_typing.specs.ExampleTerms.{basis_scope, options, lists, maps_twice, maps_once, called_x, x_name}
 use Rattle.core_typing.specs.ExampleTypings.{with_two_rows, GuardHoldsByAssumption, MapOfMapIsTyped}
 use Rattle.core_typing.proofs.ExampleFaults.{no_some}
 
@@ -40,7 +40,7 @@ guard_holds = of_call (of_bound refl) (to_guard (rows_apart (guarded (var 1) (va
 
 -- the map
 abbrev under_row : Sc
-under_row = under_con (row_of types) basis_scope
+under_row = under_con x_name (row_of types) basis_scope
 
 options_kinded : Kinded under_row.kinds (mapped types types options (mapped types types lists (var 0))) (row_of types)
 options_kinded = of_app (of_app of_map (of_lambda (of_app (of_basic refl) (of_var refl)))) (of_app (of_app of_map (of_lambda (of_app (of_basic refl) (of_var refl)))) (of_var refl))

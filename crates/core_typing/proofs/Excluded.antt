@@ -1,10 +1,10 @@
 -- What is told of a term excludes that it is found with cover.
 use Rattle.std.proofs.Common.{◌≡◌, ℕ, Bool, true, false, List, [], ◌∷◌, Option, Some, None, Result, Ok, Err, refl, ap, ap₂, sym, ◌∙◌, subst, subst₂}
-use Rattle.con_terms.specs.Trees.{Kd, types, row_of, Cn, cat, Prs}
+use Rattle.con_terms.specs.Trees.{Kd, types, row_of, Cn, Prs}
 use Rattle.con_terms.specs.Substitution.{subst as put}
 use Rattle.con_terms.specs.Apart.{Guards}
 use Rattle.con_terms.specs.declared.place.Place.{Place}
-use Rattle.row_normal.specs.Ordered.{ordered, ordered_pieces}
+use Rattle.row_normal.specs.Ordered.{ordered_pieces}
 use Rattle.row_normal.specs.NormalForm.{nf}
 use Rattle.kind_rules.specs.Flaws.{Flw}
 use Rattle.kind_rules.specs.Compared.{comparison_units, normal_forms, with_second, forms_flaw}
@@ -25,11 +25,11 @@ use Rattle.core_typing.specs.Judged.{HasKind, has, LacksKind, lacks}
 use Rattle.core_typing.specs.Faults.{Fault}
 use Rattle.core_typing.specs.PatternFaults.{Constructs, AtData, PatFound, any_binds, binds_one, number_binds, text_binds, bare_binds, holding_binds, fields_bind, more_fields_bind, annotated_binds, PatFieldsFound, none_bind, one_binds, PatFault, PatFieldsFault}
 use Rattle.core_typing.specs.PatternFaults as pat
-use Rattle.core_typing.specs.Found.{FoundBy, Found, bound_has, top_has, foreign_has, fold_has, built_has, fn_has, fn_guard_has, call_has, let_has, case_has, ascribed_has, fields_have, select_has, concat_has, without_has, without_row_has, folder_has, element_has, Leads, past_term, past_con, past_guard, EachFound, branch_found, FieldsFound, field_found, LocalsFound, val_found, rec_found, NamedFound, name_found, ElementFound, holding_found, words_found, empty_found, form_found, input_found, button_found, AttributesFound, attribute_found, NodesFound, node_found}
+use Rattle.core_typing.specs.Found.{FoundBy, Found, bound_has, top_has, foreign_has, fold_has, built_has, fn_has, fn_guard_has, call_has, let_has, case_has, ascribed_has, fields_have, select_has, concat_has, without_has, without_row_has, folder_has, element_has, Leads, past_term, past_con, past_guard, EachFound, branch_found, FieldsFound, field_found, LocalsFound, val_found, rec_found, NamedFound, name_found, ElementFound, holding_found, words_found, empty_found, form_found, input_found, button_found, AttributesFound, attribute_found, NodesFound, node_found, literal_has, last_found}
 use Rattle.core_typing.specs.Own.{Wants, other, large, NotOf, other_form, large_form, IsFunction, IsPoly, IsGuarded, IsRecord, Meets, they_touch, they_are_large, Uncovered, misses, large_part, CallsTop, top_alone, top_called, NotLinked, ItemFault, NamedFault, LocalFault, BranchFault, BranchDiffers, FieldFault, AttributeFault, SecondAt, AttributeTwice, NodeFault, NotWords, this_node, later_words, StandsEitherWay, ElementFault, Own}
 use Rattle.core_typing.specs.Own as own
 use Rattle.core_typing.proofs.Normal.{first_form, same_second}
-use Rattle.core_typing.proofs.OneType.{one_value, one_answer, one_record, other_sort, one_constructor, held_alike, one_pattern, one_left, one_found, one_nodes, one_row, one_result, one_argument, one_body, one_kind_asked, one_behind, one_left_side, one_right_side, one_fill}
+use Rattle.core_typing.proofs.OneType.{one_value, one_answer, one_record, other_sort, one_constructor, held_alike, one_pattern, one_left, one_found, one_nodes, one_row, one_result, one_argument, one_body, one_kind_asked, one_behind, one_left_side, one_right_side}
 
 -- one of two answers
 no_value : {X : Type 0} {o : Option X} {x : X} → o ≡ None → o ≡ Some x → ⊥
@@ -48,7 +48,7 @@ differ_out a d = d.differ (both_alike (one_answer a.forms d.normal))
 pub large_out : {t u : Cn} → Alike t u → Large t u → ⊥
 large_out a l = no_error a.forms l
 
-pub wants_out : {p : Place} {t u : Cn} {f : Fault} → Alike t u → Wants p t u f → ⊥
+pub wants_out : {G : Sc} {p : Place} {t u : Cn} {f : Fault} → Alike t u → Wants G p t u f → ⊥
 wants_out a (other d) = differ_out a d
 wants_out a (large l) = large_out a l
 
@@ -61,7 +61,7 @@ disjoint_both {gs} p q x = subst₂ (λ y z. Disjoint gs y z) (sym p) (sym q) x
 covers_both : {ds : List Dt} {ps : List Pt} {t u : Cn} → t ≡ u → Covers ds ps u → Covers ds ps t
 covers_both {ds} {ps} p x = subst (λ y. Covers ds ps y) (sym p) x
 
-form_out : {F : Cn → Type 0} {p : Place} {w t n : Cn} {f : Fault} → NotOf F p w t f → normal_of t ≡ Some n → F n → ⊥
+form_out : {F : Cn → Type 0} {G : Sc} {p : Place} {w t n : Cn} {f : Fault} → NotOf F G p w t f → normal_of t ≡ Some n → F n → ⊥
 form_out {F = F} (other_form h none) k x = none (subst F (one_value k h) x)
 form_out (large_form h) k x = no_value h k
 
@@ -209,17 +209,13 @@ words_out (this_node none) w = none w.0
 words_out (later_words h d) w = words_out d w.1
 
 nodes_out : {G : Sc} {c d u b : Cn} {xs : Xs} {f : Fault} → NodeFault G c u xs f → NodesFound Covers G d u xs b → c ≡ d → ⊥
-nodes_out (own.no_tree g m none k l) (node_found {b = b} {m = x} {v = v} e n a h xs j) i = none (x, v, b, one_value m (ap normal_of (one_found g e) ∙ n))
-nodes_out (own.no_tree_in_large g m none k) (node_found {b = b} {m = x} {v = v} e n a h xs j) i = none (x, v, b, one_value m (ap normal_of (one_found g e) ∙ n))
-nodes_out (own.large_tree g m) (node_found e n a h xs j) i = no_value m (ap normal_of (one_found g e) ∙ n)
-nodes_out (own.other_place {u = u} g m w) (node_found e n a h xs j) i =
-    let k = one_found g e in
-    wants_out (alike_both (ap₂ (λ y z. xml_of y u z) i (one_fill (one_value m (ap normal_of k ∙ n)))) k a) w
-nodes_out (own.filled_before g m f) (node_found e n a h xs j) i = meets_out (disjoint_both refl (one_fill (one_value m (ap normal_of (one_found g e) ∙ n))) h) f
-nodes_out (own.filled_behind g m ys f) (node_found e n a h xs j) i =
-    meets_out (disjoint_both (one_fill (one_value m (ap normal_of (one_found g e) ∙ n))) (one_nodes ys xs) j) f
-nodes_out {G} (own.later_node {u = u} g m f) (node_found {c = d} {d = k} {xs = zs} e n a h ys j) i =
-    nodes_out f (subst (λ y. NodesFound Covers G d (ordered (cat u y)) zs k) (sym (one_fill (one_value m (ap normal_of (one_found g e) ∙ n)))) ys) i
+nodes_out (own.fills_kind f) (last_found k e a) i = kind_out k f
+nodes_out (own.fills_kind f) (node_found k e a h xs j) i = kind_out k f
+nodes_out (own.other_place {u = u} {b = b} l g w) (last_found k e a) i = wants_out (alike_both (ap (λ y. xml_of y u b) i) (one_found g e) a) w
+nodes_out (own.other_place {u = u} {b = b} l g w) (node_found k e a h xs j) i = wants_out (alike_both (ap (λ y. xml_of y u b) i) (one_found g e) a) w
+nodes_out (own.filled_before l f) (node_found k e a h xs j) i = meets_out h f
+nodes_out (own.filled_behind l ys f) (node_found k e a h xs j) i = meets_out (disjoint_both refl (one_nodes ys xs) j) f
+nodes_out (own.later_node l f) (node_found k e a h ys j) i = nodes_out f ys i
 
 -- where tags stand
 words_stand : (g : TagName) → sort_of g ≡ of_words → stands g ≡ in_head
@@ -362,12 +358,12 @@ element_out (own.input_holds_nothing s e f) (form_found s2 h k l as' xs) = other
 element_out (own.button_holds_nothing s e f) (holding_found o s2 i h k as' xs) = other_sort s s2 tt
 element_out (own.button_holds_nothing s e f) (words_found o s2 h k as' ws xs) = other_sort s s2 tt
 element_out (own.button_holds_nothing s e f) (form_found s2 h k l as' xs) = other_sort s s2 tt
-element_out (own.no_words s d e n f) (holding_found o s2 i h k as' xs) = other_sort s s2 tt
-element_out (own.no_words s d e n f) (words_found o s2 h k as' ws xs) = words_out d ws
-element_out (own.no_words s d e n f) (empty_found o s2 h k as') = other_sort s s2 tt
-element_out (own.no_words s d e n f) (form_found s2 h k l as' xs) = other_sort s s2 tt
-element_out (own.no_words s d e n f) (button_found s2 h k as' a) = other_sort s s2 tt
-element_out (own.no_words s d e n f) (input_found s2 h k l as') = other_sort s s2 tt
+element_out (own.no_words s d e n) (holding_found o s2 i h k as' xs) = other_sort s s2 tt
+element_out (own.no_words s d e n) (words_found o s2 h k as' ws xs) = words_out d ws
+element_out (own.no_words s d e n) (empty_found o s2 h k as') = other_sort s s2 tt
+element_out (own.no_words s d e n) (form_found s2 h k l as' xs) = other_sort s s2 tt
+element_out (own.no_words s d e n) (button_found s2 h k as' a) = other_sort s s2 tt
+element_out (own.no_words s d e n) (input_found s2 h k l as') = other_sort s s2 tt
 element_out (own.large_words s d e n) (holding_found o s2 i h k as' xs) = other_sort s s2 tt
 element_out (own.large_words s d e n) (words_found o s2 h k as' ws xs) = words_out d ws
 element_out (own.large_words s d e n) (empty_found o s2 h k as') = other_sort s s2 tt
@@ -450,3 +446,7 @@ own_out (own.row_not_there {t = u} g x l f) (without_row_has {c = c} {t = t} e n
 own_out (own.no_folder n) (folder_has h k) = no_value n h
 own_out (own.folder_kind f) (folder_has h k) = kind_out k f
 own_out (own.an_element f) (element_has m) = element_out f m
+own_out (own.literal_context f) (literal_has k l xs) = kind_out k f
+own_out (own.literal_uses f) (literal_has k l xs) = kind_out l f
+own_out (own.literal_node i j f) (literal_has k l xs) = nodes_out f xs refl
+own_out own.no_rule h = elim h [ ]

@@ -6,7 +6,7 @@ use Rattle.core_terms.specs.Trees.{Pt, Ex, Its, Nms, Los, Brs, Fds, El, Ats, Xs,
 use Rattle.core_typing.specs.Asks.{CoverAsked}
 use Rattle.core_typing.specs.Scopes.{Sc}
 use Rattle.core_typing.specs.TypingLaws.{FoundAskingLess}
-use Rattle.core_typing.specs.Found.{FoundBy, bound_has, top_has, foreign_has, basis_has, fold_has, number_has, text_has, built_has, fn_has, fn_con_has, fn_guard_has, call_has, let_has, case_has, ascribed_has, fields_have, select_has, concat_has, without_has, without_row_has, folder_has, element_has, Leads, at_end, past_term, past_con, past_guard, EachFound, no_branch_found, branch_found, FieldsFound, no_field_found, field_found, LocalsFound, nothing_found, val_found, rec_found, NamedFound, no_name_found, name_found, ElementFound, holding_found, words_found, empty_found, form_found, input_found, button_found, AttributesFound, no_attribute_found, attribute_found, NodesFound, no_node_found, node_found}
+use Rattle.core_typing.specs.Found.{FoundBy, bound_has, top_has, foreign_has, basis_has, fold_has, number_has, text_has, built_has, fn_has, fn_con_has, fn_guard_has, call_has, let_has, case_has, ascribed_has, fields_have, select_has, concat_has, without_has, without_row_has, folder_has, element_has, Leads, at_end, past_term, past_con, past_guard, EachFound, no_branch_found, branch_found, FieldsFound, no_field_found, field_found, LocalsFound, nothing_found, val_found, rec_found, NamedFound, no_name_found, name_found, ElementFound, holding_found, words_found, empty_found, form_found, input_found, button_found, AttributesFound, no_attribute_found, attribute_found, NodesFound, no_node_found, node_found, literal_has, last_found}
 
 -- each thing that C asks of patterns implies what D asks
 abbrev Implies : CoverAsked → CoverAsked → Type 0
@@ -36,6 +36,7 @@ mutual
   found_less z (without_row_has a b c d) = without_row_has (found_less z a) b c d
   found_less z (folder_has a b) = folder_has a b
   found_less z (element_has a) = element_has (element_less z a)
+  found_less z (literal_has a b c) = literal_has a b (nodes_less z c)
 
   leads_less : {C D : CoverAsked} {G : Sc} {t u : Cn} {is : Its} → Implies C D → Leads C G t is u → Leads D G t is u
   leads_less z at_end = at_end
@@ -74,7 +75,8 @@ mutual
 
   pub nodes_less : {C D : CoverAsked} {G : Sc} {c u b : Cn} {xs : Xs} → Implies C D → NodesFound C G c u xs b → NodesFound D G c u xs b
   nodes_less z no_node_found = no_node_found
-  nodes_less z (node_found a b c d e f) = node_found (found_less z a) b c d (nodes_less z e) f
+  nodes_less z (last_found a b c) = last_found a (found_less z b) c
+  nodes_less z (node_found a b c d e f) = node_found a (found_less z b) c d (nodes_less z e) f
 
 pub found_asking_less : FoundAskingLess
 found_asking_less G e t h = found_less (λ ds ps u c. tt) h

@@ -12,7 +12,7 @@ use Rattle.core_typing.specs.Typed.{by_equal}
 use Rattle.core_typing.specs.Found.{FoundBy}
 use Rattle.core_typing.specs.Declarations.{DeclsTyped, no_decls, a_val, some_vals, a_con, a_datatype, Distinct}
 use Rattle.core_typing.specs.Faults.{Fault}
-use Rattle.core_typing.specs.Tells.{DeclAt, here, past_val, past_vals, past_con, past_datatype, DeclSub, of_val, of_vals, DeclOwn, type_kind, other_type, in_named, con_kind, held_kind, same_constructor, ProgramOwn, of_declaration, same_entry, in_declaration, tells_outside, tells_in_term, Tells, tells_own, tells_inner, Fails, itself, inside}
+use Rattle.core_typing.specs.Tells.{DeclAt, here, past_val, past_vals, past_con, past_datatype, DeclSub, of_val, of_vals, DeclOwn, type_kind, other_type, in_named, con_kind, held_kind, same_constructor, ProgramOwn, of_declaration, same_entry, in_declaration, tells_outside, tells_in_term, Tells, tells_own, tells_inner, Fails, itself, inside, past_thing}
 use Rattle.core_typing.specs.FoundProgram.{DeclsFound, no_decls_found, a_val_found, vals_found, con_found, datatype_found, ProgramFound, FoundIsAccepted, FoundIsClear}
 use Rattle.core_typing.proofs.Normal.{alike_equal}
 use Rattle.core_typing.proofs.Judging.{has_kind}
@@ -36,6 +36,7 @@ found_at : {p : Pg} {tops us : List Cn} {ds es : List Dt} {decls : List De} {d :
 found_at (here {rest = rest}) f = (rest, f)
 found_at (past_val a) (a_val_found k e h rest) = found_at a rest
 found_at (past_vals a) (vals_found ns rest) = found_at a rest
+found_at (past_thing a) h = elim h [ ]
 found_at (past_con a) (con_found k rest) = found_at a rest
 found_at (past_datatype a) (datatype_found h d rest) = found_at a rest
 

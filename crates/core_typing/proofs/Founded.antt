@@ -9,8 +9,8 @@ use Rattle.core_terms.specs.Trees.{Ex, Its, Nms, Los, Brs, Fds, El, Ats, Xs}
 use Rattle.core_terms.specs.Types.{one_field, xml_of}
 use Rattle.core_typing.specs.Scopes.{Sc}
 use Rattle.core_typing.specs.Asks.{Asks, CoverAsked, asking_cover}
-use Rattle.core_typing.specs.Typed.{Typed, by_equal, of_bound, of_top, of_foreign, of_basis, of_fold, of_number, of_text, of_built, of_fn, of_fn_con, of_fn_guard, of_call, of_let, of_case, of_ascribed, of_fields, of_select, of_concat, of_without, of_without_row, of_folder, of_element, Applies, to_nothing, to_equal, to_term, to_con, to_guard, EachTyped, no_branch, each_branch, FieldsTyped, no_field, each_field, Declares, nothing, one_name, names_together, NamedTyped, no_name, each_name, ElementTyped, of_holding, of_words_alone, of_empty, of_form, of_input, of_button, AttributesTyped, no_attribute, each_attribute, NodesTyped, no_node, each_node}
-use Rattle.core_typing.specs.Found.{FoundBy, bound_has, top_has, foreign_has, basis_has, fold_has, number_has, text_has, built_has, fn_has, fn_con_has, fn_guard_has, call_has, let_has, case_has, ascribed_has, fields_have, select_has, concat_has, without_has, without_row_has, folder_has, element_has, Leads, at_end, past_term, past_con, past_guard, EachFound, no_branch_found, branch_found, FieldsFound, no_field_found, field_found, LocalsFound, nothing_found, val_found, rec_found, NamedFound, no_name_found, name_found, ElementFound, holding_found, words_found, empty_found, form_found, input_found, button_found, AttributesFound, no_attribute_found, attribute_found, NodesFound, no_node_found, node_found}
+use Rattle.core_typing.specs.Typed.{Typed, by_equal, of_bound, of_top, of_foreign, of_basis, of_fold, of_number, of_text, of_built, of_fn, of_fn_con, of_fn_guard, of_call, of_let, of_case, of_ascribed, of_fields, of_select, of_concat, of_without, of_without_row, of_folder, of_element, Applies, to_nothing, to_equal, to_term, to_con, to_guard, EachTyped, no_branch, each_branch, FieldsTyped, no_field, each_field, Declares, nothing, one_name, names_together, NamedTyped, no_name, each_name, ElementTyped, of_holding, of_words_alone, of_empty, of_form, of_input, of_button, AttributesTyped, no_attribute, each_attribute, NodesTyped, no_node, each_node, of_literal, last_node}
+use Rattle.core_typing.specs.Found.{FoundBy, bound_has, top_has, foreign_has, basis_has, fold_has, number_has, text_has, built_has, fn_has, fn_con_has, fn_guard_has, call_has, let_has, case_has, ascribed_has, fields_have, select_has, concat_has, without_has, without_row_has, folder_has, element_has, Leads, at_end, past_term, past_con, past_guard, EachFound, no_branch_found, branch_found, FieldsFound, no_field_found, field_found, LocalsFound, nothing_found, val_found, rec_found, NamedFound, no_name_found, name_found, ElementFound, holding_found, words_found, empty_found, form_found, input_found, button_found, AttributesFound, no_attribute_found, attribute_found, NodesFound, no_node_found, node_found, literal_has, last_found}
 use Rattle.core_typing.proofs.Normal.{normal_equal, first_form, second_equal, alike_equal, disjoint_apart, field_equal, field_left, part_left}
 use Rattle.core_typing.proofs.Judging.{has_kind, guard_sides, folder_there}
 use Rattle.core_typing.proofs.LargerScopes.{typed_under_equal_guard}
@@ -66,6 +66,7 @@ mutual
   found_typed (without_row_has {c = c} {n = x} {t = t} {r = r} {rest = rest} e n k h) = of_without_row (has_kind k) (by_equal (found_typed e) (step (normal_equal (first_form t c n)) (in_record (step (part_left r x rest h) (in_cat (back (second_equal t c n)) same)))) tt)
   found_typed {G = G} (folder_has {k = k} {s = s} h x) = of_folder (folder_there G.folders k s h) (has_kind x)
   found_typed (element_has m) = let r = element_typed m in by_equal (of_element r.of_type) r.equal tt
+  found_typed (literal_has k l xs) = let r = nodes_typed xs same in by_equal (of_literal (has_kind k) (has_kind l) r.filled tt) (in_app same r.equal) tt
 
   leads_applies : {C : CoverAsked} {G : Sc} {t u : Cn} {is : Its} → Leads C G t is u → Applies (asking_cover C) G t is u
   leads_applies at_end = to_nothing
@@ -104,10 +105,15 @@ mutual
 
   nodes_typed : {C : CoverAsked} {G : Sc} {c u v b : Cn} {xs : Xs} → NodesFound C G c u xs b → Equal v u → NodesAre (asking_cover C) G c v xs b
   nodes_typed no_node_found i = record { fills = _; filled = no_node; equal = same }
-  nodes_typed (node_found e n h a xs b) i =
+  nodes_typed (last_found k e h) i = record {
+    fills = _;
+    filled = last_node (has_kind k) (by_equal (found_typed e) (step (back (alike_equal h)) (wanted_tree i)) tt);
+    equal = same;
+  }
+  nodes_typed (node_found k e h a xs b) i =
       let r = nodes_typed xs (put_in_order i same) in
       record {
         fills = _;
-        filled = each_node (by_equal (found_typed e) (step (back (alike_equal h)) (wanted_tree i)) tt) (apart_along i same (disjoint_apart a)) r.filled (apart_along same r.equal (disjoint_apart b));
+        filled = each_node (has_kind k) (by_equal (found_typed e) (step (back (alike_equal h)) (wanted_tree i)) tt) (apart_along i same (disjoint_apart a)) r.filled (apart_along same r.equal (disjoint_apart b));
         equal = put_in_order same r.equal;
       }

@@ -18,7 +18,7 @@ use Rattle.core_typing.specs.Scopes.{Sc, under, under_con, under_guard}
 use Rattle.core_typing.specs.Asks.{CoverAsked, Asks, AsksMore, asking_cover, nothing_asked, cover_asked, kinds_asked}
 use Rattle.core_typing.specs.Patterns.{PatTyped, PatFieldsTyped, AtConstructor}
 use Rattle.core_typing.specs.Patterns as pat
-use Rattle.core_typing.specs.Typed.{Typed, by_equal, of_bound, of_top, of_foreign, of_basis, of_fold, of_number, of_text, of_built, of_fn, of_fn_con, of_fn_guard, of_call, of_let, of_case, of_ascribed, of_fields, of_select, of_concat, of_without, of_without_row, of_folder, of_element, Applies, to_nothing, to_equal, to_term, to_con, to_guard, EachTyped, no_branch, each_branch, FieldsTyped, no_field, each_field, Declares, nothing, one_name, names_together, NamedTyped, no_name, each_name, ElementTyped, of_holding, of_words_alone, of_empty, of_form, of_input, of_button, AttributesTyped, no_attribute, each_attribute, NodesTyped, no_node, each_node, IsLinked, as_link, as_action, as_title, as_href, as_src, as_alt, as_border, as_value, as_size, named_types}
+use Rattle.core_typing.specs.Typed.{Typed, by_equal, of_bound, of_top, of_foreign, of_basis, of_fold, of_number, of_text, of_built, of_fn, of_fn_con, of_fn_guard, of_call, of_let, of_case, of_ascribed, of_fields, of_select, of_concat, of_without, of_without_row, of_folder, of_element, Applies, to_nothing, to_equal, to_term, to_con, to_guard, EachTyped, no_branch, each_branch, FieldsTyped, no_field, each_field, Declares, nothing, one_name, names_together, NamedTyped, no_name, each_name, ElementTyped, of_holding, of_words_alone, of_empty, of_form, of_input, of_button, AttributesTyped, no_attribute, each_attribute, NodesTyped, no_node, each_node, IsLinked, as_link, as_action, as_title, as_href, as_src, as_alt, as_border, as_value, as_size, named_types, of_literal, last_node}
 use Rattle.core_typing.specs.Carried.{ShowsPage, SendsForm}
 use Rattle.core_typing.specs.KindLaws.{Widens}
 use Rattle.core_typing.specs.TypingLaws.{Extends, TypingsStay, AskingLess}
@@ -60,7 +60,7 @@ pub record Richer (A B : Asks) (R : Scope → Scope → Type 0) (G H : Sc) : Typ
 richer_under : {A B : Asks} {R : Scope → Scope → Type 0} {G H : Sc} (ts : List Cn) → Richer A B R G H → Richer A B R (under ts G) (under ts H)
 richer_under {G = G} {H = H} ts r = record { carries = r.carries; related = r.related; locals = keeps_behind ts G.locals H.locals r.locals; tops = r.tops; datatypes = r.datatypes; folders = r.folders; effects = r.effects }
 
-richer_con : {A B : Asks} {R : Scope → Scope → Type 0} {G H : Sc} (k : Kd) → Richer A B R G H → Richer A B R (under_con k G) (under_con k H)
+richer_con : {A B : Asks} {R : Scope → Scope → Type 0} {G H : Sc} {x : ℕ} (k : Kd) → Richer A B R G H → Richer A B R (under_con x k G) (under_con x k H)
 richer_con {G = G} {H = H} k r = record { carries = r.carries; related = r.carries.bound k G.kinds H.kinds r.related; locals = keeps_map (λ t. shift 1 t 0) G.locals H.locals r.locals; tops = r.tops; datatypes = r.datatypes; folders = r.folders; effects = r.effects }
 
 richer_guard : {A B : Asks} {R : Scope → Scope → Type 0} {G H : Sc} (c d : Cn) → Richer A B R G H → Richer A B R (under_guard c d G) (under_guard c d H)
@@ -140,6 +140,7 @@ mutual
   typed_still r (of_without_row k e) = of_without_row (kinded_still r k) (typed_still r e)
   typed_still r (of_folder {k = k} {s = s} h j) = of_folder (r.folders (k, s) h) (kinded_still r j)
   typed_still r (of_element m) = of_element (element_still r m)
+  typed_still r (of_literal k l xs x) = of_literal (kinded_still r k) (kinded_still r l) (nodes_still r xs) (exchanged r x)
 
   applies_still : {A B : Asks} {R : Scope → Scope → Type 0} {G H : Sc} {t u : Cn} {is : Its} → Richer A B R G H → Applies A G t is u → Applies B H t is u
   applies_still r to_nothing = to_nothing
@@ -183,7 +184,8 @@ mutual
 
   nodes_still : {A B : Asks} {R : Scope → Scope → Type 0} {G H : Sc} {c u b : Cn} {xs : Xs} → Richer A B R G H → NodesTyped A G c u xs b → NodesTyped B H c u xs b
   nodes_still r no_node = no_node
-  nodes_still r (each_node e a xs b) = each_node (typed_still r e) (apart_still r a) (nodes_still r xs) (apart_still r b)
+  nodes_still r (last_node k e) = last_node (kinded_still r k) (typed_still r e)
+  nodes_still r (each_node k e a xs b) = each_node (kinded_still r k) (typed_still r e) (apart_still r a) (nodes_still r xs) (apart_still r b)
 
 -- what is asked of an exchanged type holds where more guards are assumed
 abbrev StaysAsked : Asks → Type 0

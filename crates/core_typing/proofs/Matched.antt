@@ -6,7 +6,7 @@ use Rattle.con_terms.specs.Equal.{Equal, same, back, step, in_record, in_row, in
 use Rattle.row_normal.proofs.OrderEqual.{cats}
 use Rattle.row_normal.proofs.StepEqual.{along}
 use Rattle.core_terms.specs.Names.{int_name, string_name}
-use Rattle.core_terms.specs.Trees.{Pt, Pfs, Cd, Dt}
+use Rattle.core_terms.specs.Trees.{Pt, Pfs, Cd, Dt, arity}
 use Rattle.core_terms.specs.Types.{at_types, type_row, one_field}
 use Rattle.core_terms.specs.Datatypes.{datatype_of}
 use Rattle.core_typing.specs.Scopes.{Sc}
@@ -22,9 +22,9 @@ pub record SeenAs (ds : List Dt) (whole : Cn) (d : Dt) (xs : List Cn) : Type 0 w
   pub symbol : ℕ
   pub applied : whole ≡ at_types (basic symbol) xs
   pub declared : datatype_of ds symbol ≡ Some d
-  pub number : length xs ≡ d.parameters
+  pub number : length xs ≡ arity d
 
-told : (ds : List Dt) (s : ℕ) (args : List Cn) (d e : Dt) (xs : List Cn) (b : Bool) → datatype_of ds s ≡ Some e → (length args == e.parameters) ≡ b → (if b then a_datatype e args else nothing_more) ≡ a_datatype d xs → SeenAs ds (at_types (basic s) args) d xs
+told : (ds : List Dt) (s : ℕ) (args : List Cn) (d e : Dt) (xs : List Cn) (b : Bool) → datatype_of ds s ≡ Some e → (length args == arity e) ≡ b → (if b then a_datatype e args else nothing_more) ≡ a_datatype d xs → SeenAs ds (at_types (basic s) args) d xs
 told ds s args d e xs true h n q =
     let same_d : e ≡ d = cc in
     let same_args : args ≡ xs = cc in
@@ -32,13 +32,13 @@ told ds s args d e xs true h n q =
       symbol = s;
       applied = ap (at_types (basic s)) same_args;
       declared = h ∙ ap Some same_d;
-      number = subst (λ (ys : List Cn). length ys ≡ d.parameters) same_args (subst (λ (x : Dt). length args ≡ x.parameters) same_d ((Decides-eqb (length args) e.parameters).0 n));
+      number = subst (λ (ys : List Cn). length ys ≡ arity d) same_args (subst (λ (x : Dt). length args ≡ arity x) same_d ((Decides-eqb (length args) (arity e)).0 n));
     }
 told ds s args d e xs false h n q = cc
 
 by_datatype : (ds : List Dt) (s : ℕ) (args : List Cn) (d : Dt) (xs : List Cn) (o : Option Dt) → datatype_of ds s ≡ o → elim o [ None ↦ nothing_more | Some e ↦ seen_data e args ] ≡ a_datatype d xs → SeenAs ds (at_types (basic s) args) d xs
 by_datatype ds s args d xs None h q = cc
-by_datatype ds s args d xs (Some e) h q = told ds s args d e xs (length args == e.parameters) h refl q
+by_datatype ds s args d xs (Some e) h q = told ds s args d e xs (length args == arity e) h refl q
 
 by_symbol : (ds : List Dt) (s : ℕ) (args : List Cn) (d : Dt) (xs : List Cn) (b c : Bool) → (if b then a_number else (if c then a_text else elim (datatype_of ds s) [ None ↦ nothing_more | Some e ↦ seen_data e args ])) ≡ a_datatype d xs → SeenAs ds (at_types (basic s) args) d xs
 by_symbol ds s args d xs true c q = cc

@@ -1,5 +1,5 @@
 -- The program of one page: that it is accepted, and its routes.
-use Rattle.std.proofs.Common.{◌≡◌, ℕ, zero, suc, ◌<◌, true, false, List, [], ◌∷◌, Some, None, refl, subst, arith}
+use Rattle.std.proofs.Common.{◌≡◌, ℕ, zero, suc, ◌<◌, true, false, List, [], ◌∷◌, Some, None, refl, subst, arith, sym, ◌∙◌, length}
 use Rattle.std.specs.Prelude.{codes, Contains, slice_get}
 use Rattle.std.specs.List.{All}
 use Rattle.std.proofs.lemmas.List.Elements.{All-from_recursion}
@@ -19,11 +19,12 @@ use Rattle.core_typing.specs.Compared.{Alike}
 use Rattle.kind_rules.specs.Compared.{comparison_units}
 use Rattle.core_typing.specs.Typed.{of_basis, of_call, of_element, to_con, to_term, to_nothing, of_holding, no_attribute, no_node}
 use Rattle.core_typing.specs.Declarations.{Value, values, no_decls, a_val, scope_with, Distinct}
-use Rattle.core_typing.specs.Entries.{IsEntry, by_export, by_link, by_action, Shaped, no_argument, no_values, get_alone, RoutesOf, no_datatype, carried, CasesShaped, no_case, a_case, holds_nothing, holds_one, of_parameter, of_datatype, of_fields, none_shaped, one_shaped, no_field_shaped, field_shaped, all_datatypes}
-use Rattle.core_typing.specs.Accepts.{FoldersDiffer, TextsDiffer, type_symbols, EntriesDiffer}
-use Rattle.core_typing.proofs.Differing.{all_plain_by_test, differ_by_test, distinct_by_test}
+use Rattle.core_typing.specs.Entries.{IsEntry, by_export, by_link, by_action, Shaped, no_argument, no_values, get_alone, RoutesOf, no_datatype, carried, CasesShaped, no_case, a_case, holds_nothing, holds_one, of_parameter, of_datatype, of_fields, none_shaped, one_shaped, no_field_shaped, field_shaped, all_datatypes, value_name}
+use Rattle.core_typing.specs.Accepts.{FoldersDiffer, TextsDiffer, type_symbols, EntriesDiffer, Located, NamesBeginNone}
+use Rattle.core_typing.proofs.Differing.{all_plain_by_test, differ_by_test, distinct_by_test, none_more}
 use Rattle.core_typing.specs.ExampleTerms.{said, with_added}
 use Rattle.core_typing.specs.ExampleProgram.{one_page, empty_body, OnePageIsAccepted}
+use Rattle.core_terms.specs.declared.exp.Sigil.TheVariants.{Plain}
 
 none_in : {X : Type 0} {x : X} → Contains [] x → ⊥
 none_in c = absurd (omega (arith, c.1))
@@ -43,9 +44,16 @@ page_kinded = of_app (of_app (of_app (of_basic refl) html_kinded) no_types_kinde
 names_differ : TextsDiffer one_page.names
 names_differ = differ_by_test one_page.names refl
 
-located : (v : Value) → Contains (values one_page.decls) v → (v.place.file < 1) × (v.name < 36)
-located v (zero, h, e) = subst (λ (x : Value). (x.place.file < 1) × (x.name < 36)) e (omega arith, omega arith)
+located : (v : Value) → Contains (values one_page.decls) v → Located one_page v
+located v (zero, h, e) = subst (λ (x : Value). Located one_page x) e (record { in_module = omega arith; named = omega arith; around = tt })
 located v (suc k, h, e) = absurd (omega (arith, h))
+
+two_pieces : (v : Value) → Contains (values one_page.decls) v → length (value_name one_page v) ≡ 2
+two_pieces v (zero, h, e) = subst (λ (x : Value). length (value_name one_page x) ≡ 2) e refl
+two_pieces v (suc k, h, e) = absurd (omega (arith, h))
+
+begins_none : NamesBeginNone one_page
+begins_none v w more c d e = none_more (value_name one_page v) (value_name one_page w) more (two_pieces v c ∙ sym (two_pieces w d)) e
 
 distinct : Distinct (type_symbols one_page)
 distinct = distinct_by_test (type_symbols one_page) refl
@@ -64,7 +72,7 @@ html_names = (omega arith, tt, tt)
 page_names : NamesThere 36 (transaction_of page_type)
 page_names = (tt, (((tt, html_names), tt), tt))
 
-term_fits : FormFits 36 (call (said (basis Return)) (with_added page_type (with_term empty_body no_items)))
+term_fits : FormFits 36 (call (said (basis Return)) Plain (with_added page_type (with_term empty_body no_items)))
 term_fits = (tt, (page_names.1, ((tt, html_names, tt, tt, tt), tt)))
 
 exported : All (λ i. i < 1) (0 ∷ [])
@@ -89,7 +97,7 @@ differ i j false e d h g n = absurd (n (same_number i j (one_value i e h) (one_v
 
 pub accepted : OnePageIsAccepted
 accepted = record {
-  formed = record { texts = refl; differ = names_differ; plain = all_plain_by_test one_page.names refl; plain_modules = all_plain_by_test one_page.modules refl; located = located; symbols = distinct; folders = no_folders; leaves = ((page_names, term_fits), tt); exported = exported };
+  formed = record { texts = refl; differ = names_differ; plain = all_plain_by_test one_page.names refl; plain_modules = all_plain_by_test one_page.modules refl; located = located; names_begin_none = begins_none; symbols = distinct; folders = no_folders; leaves = ((page_names, term_fits), tt); exported = exported };
   typed = a_val (of_app (of_basic refl) page_kinded)
       (of_call of_basis (to_con page_kinded (to_term (of_element (of_holding false refl tt same no_types_kinded no_attribute no_node tt)) to_nothing))) no_decls;
   entries = differ;

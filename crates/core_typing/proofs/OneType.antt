@@ -14,7 +14,7 @@ use Rattle.core_terms.specs.Markup.{Sort, holding, of_words, empty, a_form, an_i
 use Rattle.core_typing.specs.Asks.{CoverAsked}
 use Rattle.core_typing.specs.Compared.{field_of, without_pieces}
 use Rattle.core_typing.specs.PatternFaults.{AtData, PatFound, any_binds, binds_one, number_binds, text_binds, bare_binds, holding_binds, fields_bind, more_fields_bind, annotated_binds, PatFieldsFound, none_bind, one_binds}
-use Rattle.core_typing.specs.Found.{FoundBy, bound_has, top_has, foreign_has, basis_has, fold_has, number_has, text_has, built_has, fn_has, fn_con_has, fn_guard_has, call_has, let_has, case_has, ascribed_has, fields_have, select_has, concat_has, without_has, without_row_has, folder_has, element_has, Leads, at_end, past_term, past_con, past_guard, FieldsFound, no_field_found, field_found, LocalsFound, nothing_found, val_found, rec_found, ElementFound, holding_found, words_found, empty_found, form_found, input_found, button_found, NodesFound, no_node_found, node_found}
+use Rattle.core_typing.specs.Found.{FoundBy, bound_has, top_has, foreign_has, basis_has, fold_has, number_has, text_has, built_has, fn_has, fn_con_has, fn_guard_has, call_has, let_has, case_has, ascribed_has, fields_have, select_has, concat_has, without_has, without_row_has, folder_has, element_has, Leads, at_end, past_term, past_con, past_guard, FieldsFound, no_field_found, field_found, LocalsFound, nothing_found, val_found, rec_found, ElementFound, holding_found, words_found, empty_found, form_found, input_found, button_found, NodesFound, no_node_found, node_found, literal_has, last_found}
 use Rattle.core_typing.specs.TypingLaws.{OneTypeIsFound, OneListIsBound}
 use Rattle.core_typing.proofs.Normal.{first_form, same_second}
 use Rattle.core_typing.proofs.LeftOver.{inside}
@@ -154,6 +154,7 @@ mutual
   one_found (without_row_has {c = c} {t = t} e h k f) (without_row_has {t = u} d g l j) = ap (λ x. record_of (ordered (joined types x))) (one_rest (one_record (first_form t c h) (ap normal_of (one_found e d) ∙ first_form u c g)) (same_second t u c h g (one_found e d)) f j)
   one_found (folder_has {k = k} {ps = ps} h j) (folder_has g l) = ap (λ s. app (basic s) (row k ps)) (one_value h g)
   one_found (element_has m) (element_has n) = one_element m n
+  one_found (literal_has {c = c} {u = u} k l xs) (literal_has k2 l2 ys) = ap (xml_of c u) (one_nodes xs ys)
 
   pub one_lead : {C D : CoverAsked} {G : Sc} {t u v : Cn} {is : Its} → Leads C G t is u → Leads D G t is v → u ≡ v
   one_lead at_end at_end = refl
@@ -200,7 +201,8 @@ mutual
 
   pub one_nodes : {C D : CoverAsked} {G : Sc} {c d u v b k : Cn} {xs : Xs} → NodesFound C G c u xs b → NodesFound D G d v xs k → b ≡ k
   one_nodes no_node_found no_node_found = refl
-  one_nodes (node_found e n h a xs b) (node_found f m g l ys k) = ap₂ (λ x y. ordered (cat x y)) (one_fill (one_value n (ap normal_of (one_found e f) ∙ m))) (one_nodes xs ys)
+  one_nodes (last_found k e h) (last_found k2 f g) = refl
+  one_nodes (node_found {b = b} k e h a xs d) (node_found k2 f g l ys m) = ap (λ y. ordered (cat b y)) (one_nodes xs ys)
 
 pub one_type_is_found : OneTypeIsFound
 one_type_is_found G e t u h k = one_found h k

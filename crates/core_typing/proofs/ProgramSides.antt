@@ -12,7 +12,7 @@ use Rattle.core_typing.specs.Declarations.{datatypes, value_types, named_values,
 use Rattle.core_typing.specs.Accepts.{Formed}
 use Rattle.core_typing.specs.Entries.{all_datatypes}
 use Rattle.core_typing.specs.Faults.{Fault}
-use Rattle.core_typing.specs.Tells.{DeclAt, here, past_val, past_vals, past_con, past_datatype, of_val, of_vals, DeclOwn, type_kind, other_type, in_named, con_kind, held_kind, same_constructor, ProgramOwn, of_declaration, same_entry, ProgramSub, in_declaration, tells_outside, tells_in_term}
+use Rattle.core_typing.specs.Tells.{DeclAt, here, past_val, past_vals, past_con, past_datatype, of_val, of_vals, DeclOwn, type_kind, other_type, in_named, con_kind, held_kind, same_constructor, ProgramOwn, of_declaration, same_entry, ProgramSub, in_declaration, tells_outside, tells_in_term, past_thing}
 use Rattle.core_typing.specs.FaultLaws.{SidesDiffer, OwnSymbols, ProgramSidesDiffer}
 use Rattle.core_typing.proofs.SidesDiffer.{kind_differs, wants_differ, named_differs, told_differs}
 
@@ -47,6 +47,7 @@ fresh_at x (here {ds = ds} {d = d} {rest = rest}) h = fresh_front x ds (datatype
 fresh_at x (past_val a) h = fresh_at x a h
 fresh_at x (past_vals a) h = fresh_at x a h
 fresh_at x (past_con a) h = fresh_at x a h
+fresh_at x (past_thing a) h = fresh_at x a h
 fresh_at x (past_datatype {ds = ds} {b = b} {rest = rest} a) h =
     let k = fresh_behind x ds (b ∷ datatypes rest) h in
     fresh_at x a (fresh_both x (ds ++ b ∷ []) (datatypes rest) (fresh_both x ds (b ∷ []) (fresh_front x ds (b ∷ datatypes rest) h) (k.0, tt)) k.1)
@@ -100,7 +101,7 @@ outside_differs (same_entry b e l n v) = tt
 
 term_symbols : {p : Pg} {G : Sc} {e : Ex} → Formed p → ProgramSub p G e → OwnSymbols G
 term_symbols {p} w (in_declaration {tops = tops} a of_val) = own_symbols p w a tops
-term_symbols {p} w (in_declaration {tops = tops} a (of_vals {ns = ns} h)) = own_symbols p w a (tops ++ value_types (named_values ns))
+term_symbols {p} w (in_declaration {tops = tops} a (of_vals {path = path} {ns = ns} h)) = own_symbols p w a (tops ++ value_types (named_values path ns))
 
 pub program_sides_differ : ProgramSidesDiffer
 program_sides_differ p f w (tells_outside h first parts) = outside_differs h

@@ -8,7 +8,7 @@ use Rattle.con_terms.specs.Substitution.{replaced, shift}
 use Rattle.con_terms.specs.Substitution as walk
 use Rattle.con_terms.specs.Kinded.{Scope, basic_kind, Kinded}
 use Rattle.core_terms.specs.declared.basis.BasisName.{BasisName}
-use Rattle.core_terms.specs.Trees.{Pt, Cd, Dt}
+use Rattle.core_terms.specs.Trees.{Pt, Cd, Dt, arity}
 use Rattle.core_typing.specs.Asks.{Asks}
 use Rattle.core_terms.specs.Types.{at_types, type_taking}
 use Rattle.core_terms.specs.Basis.{basis_type, fold_type}
@@ -43,7 +43,7 @@ pub record Walked (I : Scope → Cn → Kd → Type 0) (f : ℕ → ℕ → Cn) 
 pub grounded_under : {G : Sc} (ts : List Cn) → Grounded G → Grounded (under ts G)
 grounded_under ts g = record { tops = g.tops; held = g.held; datatypes = g.datatypes; folders = g.folders; basis = g.basis; bools = g.bools; options = g.options; lists = g.lists }
 
-pub grounded_con : {G : Sc} (k : Kd) → Grounded G → Grounded (under_con k G)
+pub grounded_con : {G : Sc} {x : ℕ} (k : Kd) → Grounded G → Grounded (under_con x k G)
 grounded_con k g = record { tops = g.tops; held = g.held; datatypes = g.datatypes; folders = g.folders; basis = g.basis; bools = g.bools; options = g.options; lists = g.lists }
 
 pub grounded_guard : {G : Sc} (c d : Cn) → Grounded G → Grounded (under_guard c d G)
@@ -64,7 +64,7 @@ locals_meet : {f : ℕ → ℕ → Cn} → Walks f → (n : ℕ) (ts : List Cn) 
 locals_meet w n [] = refl
 locals_meet {f} w n (t ∷ ts) = ap (λ x. x ∷ map (λ t. shift 1 t 0) (map (λ t. replaced f t n) ts)) (w.raised 1 t n) ∙ ap (λ xs. replaced f (shift 1 t 0) (n + 1) ∷ xs) (locals_meet w n ts)
 
-pub walked_con : {I : Scope → Cn → Kd → Type 0} {f : ℕ → ℕ → Cn} {n : ℕ} {G H : Sc} (k : Kd) → Images I → Walks f → Walked I f n G H → Walked I f (n + 1) (under_con k G) (under_con k H)
+pub walked_con : {I : Scope → Cn → Kd → Type 0} {f : ℕ → ℕ → Cn} {n x : ℕ} {G H : Sc} (k : Kd) → Images I → Walks f → Walked I f n G H → Walked I f (n + 1) (under_con x k G) (under_con x k H)
 walked_con {I} {f} {n} {G} {H} k im s w = record {
   kinds = moves_deeper k im s w.kinds;
   locals = ap (map (λ t. shift 1 t 0)) w.locals ∙ locals_meet s n G.locals;
@@ -93,7 +93,7 @@ found_symbol (x ∷ ds) s d e = test_of (x.symbol == s) x d (datatype_of ds s) (
 -- the types of what stands at the top
 pub constructor_type_kind : {G : Sc} → Grounded G → (s j : ℕ) (d : Dt) (c : Cd) → datatype_of G.datatypes s ≡ Some d → slice_get d.constructors j ≡ Some c → Kinded (at_top 0 G.kinds.basics) (constructor_type d c) types
 constructor_type_kind {G} g s j d c h k =
-    constructor_kind d c G.kinds.basics (subst (λ x. basic_kind G.kinds.basics x ≡ Some (type_taking d.parameters)) (sym (found_symbol G.datatypes s d h)) (g.datatypes s d h)) (λ held e. g.held s j d c held h k e)
+    constructor_kind d c G.kinds.basics (subst (λ x. basic_kind G.kinds.basics x ≡ Some (type_taking (arity d))) (sym (found_symbol G.datatypes s d h)) (g.datatypes s d h)) (λ held e. g.held s j d c held h k e)
 
 pub top_closed : {f : ℕ → ℕ → Cn} {G : Sc} → Walks f → Grounded G → (n i : ℕ) (t : Cn) → slice_get G.tops i ≡ Some t → replaced f t n ≡ t
 top_closed w g n i t e = closed w n (omega arith) (g.tops i t e)

@@ -19,7 +19,7 @@ use Rattle.kind_rules.proofs.Differ.{DiffersIn, Fair, then_fair, expects_fair, r
 use Rattle.core_terms.specs.declared.markup.TagName.{TagName}
 use Rattle.core_terms.specs.declared.markup.AttrName.{AttrName}
 use Rattle.core_terms.specs.Names.{int_name, string_name}
-use Rattle.core_terms.specs.Trees.{Pt, Pfs, Ex, Its, Nms, Los, Brs, Fds, El, Ats, Xs, Dt}
+use Rattle.core_terms.specs.Trees.{Pt, Pfs, Ex, Its, Nms, Los, Brs, Fds, El, Ats, Xs, Dt, arity}
 use Rattle.core_terms.specs.Types.{no_types, one_field, at_types}
 use Rattle.core_terms.specs.Datatypes.{datatype_of}
 use Rattle.core_typing.specs.Scopes.{Sc}
@@ -29,7 +29,7 @@ use Rattle.core_typing.specs.Judged.{LacksKind, lacks, flaw_at, guard_forms}
 use Rattle.core_typing.specs.Faults.{Fault}
 use Rattle.core_typing.specs.PatternFaults.{untold, PatFault, PatFieldsFault}
 use Rattle.core_typing.specs.PatternFaults as pat
-use Rattle.core_typing.specs.Own.{nothing_like, NotHeld, held_there, large_there, any_function, any_poly, any_guarded, any_record, Wants, other, large, NotOf, other_form, large_form, IsFunction, IsPoly, IsGuarded, IsRecord, Meets, they_touch, they_are_large, Uncovered, misses, large_part, NotLinked, ItemFault, NamedFault, LocalFault, BranchFault, BranchDiffers, FieldFault, AttributeFault, SecondAt, AttributeTwice, NodeFault, ElementFault, Own}
+use Rattle.core_typing.specs.Own.{nothing_like, NotHeld, held_there, large_there, any_function, any_poly, any_guarded, any_record, Wants, other, large, NotOf, other_form, large_form, IsFunction, IsPoly, IsGuarded, IsRecord, Meets, they_touch, they_are_large, Uncovered, misses, large_part, NotLinked, ItemFault, NamedFault, LocalFault, BranchFault, BranchDiffers, FieldFault, AttributeFault, SecondAt, AttributeTwice, NodeFault, ElementFault, Own, words_like}
 use Rattle.core_typing.specs.Own as own
 use Rattle.core_typing.specs.Tells.{Sub, Behind, InLocals, Tells, tells_own, tells_inner}
 use Rattle.core_typing.specs.Tells as tells
@@ -38,19 +38,19 @@ use Rattle.core_typing.proofs.Normal.{second_form}
 use Rattle.core_typing.proofs.LeftOver.{inside, no_value, field_there, no_such_field, something_left}
 
 -- flaws of kinding
-flaw_differs : (p : Place) (w : Flw) → DiffersIn w → SidesDiffer (flaw_at p w)
-flaw_differs p (unbound_variable i) h = tt
-flaw_differs p (unbound_basic s) h = tt
-flaw_differs p (kinds_differ k l) h = h
-flaw_differs p (pieces_touch c d) h = tt
-flaw_differs p flaw.too_large h = tt
+flaw_differs : (p : Place) (xs : List ℕ) (w : Flw) → DiffersIn w → SidesDiffer (flaw_at p xs w)
+flaw_differs p xs (unbound_variable i) h = tt
+flaw_differs p xs (unbound_basic s) h = tt
+flaw_differs p xs (kinds_differ k l) h = h
+flaw_differs p xs (pieces_touch c d) h = tt
+flaw_differs p xs flaw.too_large h = tt
 
 fair_flaw : {X : Type 0} (r : Result X Flw) (w : Flw) → Fair r → r ≡ Err w → DiffersIn w
 fair_flaw (Ok x) w h e = cc
 fair_flaw (Err v) w h e = let is : v ≡ w = cc in subst DiffersIn is h
 
 pub kind_differs : {G : Sc} {p : Place} {c : Cn} {k : Kd} {f : Fault} → LacksKind G p c k f → SidesDiffer f
-kind_differs {G} {p} {c} {k} (lacks {w = w} e) = flaw_differs p w (fair_flaw (kinds.judged_at G.kinds c k) w (then_fair (judged G.kinds c) (expects k) (judged_fair G.kinds c) (λ l. expects_fair k l)) e)
+kind_differs {G} {p} {c} {k} (lacks {w = w} e) = flaw_differs p G.called w (fair_flaw (kinds.judged_at G.kinds c k) w (then_fair (judged G.kinds c) (expects k) (judged_fair G.kinds c) (λ l. expects_fair k l)) e)
 
 second_fair : (m : Cn) (o : Option (Cn × ℕ)) → Fair (with_second m o)
 second_fair m None = tt
@@ -66,31 +66,31 @@ both_fair r s f g = then_fair r _ f (λ k. then_fair s _ g (λ l. tt))
 rows_fair : (r : Result (Kd × Kd) Flw) → Fair r → Fair (guard_rows r)
 rows_fair r f = then_fair r _ f (λ k. both_fair (expects_row k.0) (expects_row k.1) (row_fair k.0) (row_fair k.1))
 
-guard_differs : (p : Place) (G : Sc) (c d : Cn) (w : Flw) → guard_forms G.kinds c d ≡ Err w → SidesDiffer (flaw_at p w)
+guard_differs : (p : Place) (G : Sc) (c d : Cn) (w : Flw) → guard_forms G.kinds c d ≡ Err w → SidesDiffer (flaw_at p G.called w)
 guard_differs p G c d w e =
-    flaw_differs p w (fair_flaw (guard_forms G.kinds c d) w
+    flaw_differs p G.called w (fair_flaw (guard_forms G.kinds c d) w
     (then_fair (guard_rows (both (judged G.kinds c) (judged G.kinds d))) _ (rows_fair (both (judged G.kinds c) (judged G.kinds d)) (both_fair (judged G.kinds c) (judged G.kinds d) (judged_fair G.kinds c) (judged_fair G.kinds d)))
     (λ _. first_fair (nf comparison_units c) d)) e)
 
 -- comparisons
-pub wants_differ : {p : Place} {t u : Cn} {f : Fault} → Wants p t u f → SidesDiffer f
+pub wants_differ : {G : Sc} {p : Place} {t u : Cn} {f : Fault} → Wants G p t u f → SidesDiffer f
 wants_differ (other d) = d.differ
 wants_differ (large l) = tt
 
-form_differs : (F : Cn → Type 0) {p : Place} {w t : Cn} {f : Fault} → F w → NotOf F p w t f → SidesDiffer f
+form_differs : (F : Cn → Type 0) {G : Sc} {p : Place} {w t : Cn} {f : Fault} → F w → NotOf F G p w t f → SidesDiffer f
 form_differs F h (other_form n none) = λ e. none (subst F e h)
 form_differs F h (large_form n) = tt
 
-no_function : {p : Place} {t : Cn} {f : Fault} → NotOf IsFunction p any_function t f → SidesDiffer f
+no_function : {G : Sc} {p : Place} {t : Cn} {f : Fault} → NotOf IsFunction G p any_function t f → SidesDiffer f
 no_function h = form_differs IsFunction (unit_con, unit_con, refl) h
 
-no_poly : {p : Place} {i : Bool} {t : Cn} {f : Fault} → NotOf IsPoly p (any_poly i) t f → SidesDiffer f
+no_poly : {G : Sc} {p : Place} {i : Bool} {t : Cn} {f : Fault} → NotOf IsPoly G p (any_poly i) t f → SidesDiffer f
 no_poly {i = i} h = form_differs IsPoly (i, types, unit_con, refl) h
 
-no_guarded : {p : Place} {t : Cn} {f : Fault} → NotOf IsGuarded p any_guarded t f → SidesDiffer f
+no_guarded : {G : Sc} {p : Place} {t : Cn} {f : Fault} → NotOf IsGuarded G p any_guarded t f → SidesDiffer f
 no_guarded h = form_differs IsGuarded (row units no_pairs, row units no_pairs, unit_con, refl) h
 
-no_record : {p : Place} {t : Cn} {f : Fault} → NotOf IsRecord p any_record t f → SidesDiffer f
+no_record : {G : Sc} {p : Place} {t : Cn} {f : Fault} → NotOf IsRecord G p any_record t f → SidesDiffer f
 no_record h = form_differs IsRecord (row types no_pairs, refl) h
 
 meets_differ : {G : Sc} {p : Place} {a b : Cn} {f : Fault} → Meets G p a b f → SidesDiffer f
@@ -144,21 +144,21 @@ differs_as_test x y h = by_test (x == y) refl
     by_test false e = e
     by_test true e = absurd (h ((Decides-eqb x y).0 e))
 
-seen_own : (ds : List Dt) (s : ℕ) (d : Dt) (args : List Cn) → s ≢ int_name → s ≢ string_name → datatype_of ds s ≡ Some d → length args ≡ d.parameters → seen_basic ds s args ≡ a_datatype d args
+seen_own : (ds : List Dt) (s : ℕ) (d : Dt) (args : List Cn) → s ≢ int_name → s ≢ string_name → datatype_of ds s ≡ Some d → length args ≡ (arity d) → seen_basic ds s args ≡ a_datatype d args
 seen_own ds s d args i t e l =
     let p : (s == int_name) ≡ false = differs_as_test s int_name i in
     let q : (s == string_name) ≡ false = differs_as_test s string_name t in
-    let k : (length args == d.parameters) ≡ true = (Decides-eqb (length args) d.parameters).1 l in
+    let k : (length args == (arity d)) ≡ true = (Decides-eqb (length args) (arity d)).1 l in
     rw (p, q, e, k) refl
 
-own_seen : (G : Sc) (s : ℕ) (d : Dt) → OwnSymbols G → datatype_of G.datatypes s ≡ Some d → seen G.datatypes (at_types (basic s) (untold d.parameters)) ≡ a_datatype d (untold d.parameters)
+own_seen : (G : Sc) (s : ℕ) (d : Dt) → OwnSymbols G → datatype_of G.datatypes s ≡ Some d → seen G.datatypes (at_types (basic s) (untold (arity d))) ≡ a_datatype d (untold (arity d))
 own_seen G s d o e =
-    seen_applied G.datatypes (basic s) (untold d.parameters) []
-    ∙ ap (seen_basic G.datatypes s) (none_behind (untold d.parameters))
-    ∙ seen_own G.datatypes s d (untold d.parameters) (o s d e).0 (o s d e).1 e (as_many d.parameters)
+    seen_applied G.datatypes (basic s) (untold (arity d)) []
+    ∙ ap (seen_basic G.datatypes s) (none_behind (untold (arity d)))
+    ∙ seen_own G.datatypes s d (untold (arity d)) (o s d e).0 (o s d e).1 e (as_many (arity d))
 
-other_data : (G : Sc) (s : ℕ) (d : Dt) (n : Cn) → OwnSymbols G → datatype_of G.datatypes s ≡ Some d → ((args : List Cn) → seen G.datatypes n ≡ a_datatype d args → ⊥) → n ≢ at_types (basic s) (untold d.parameters)
-other_data G s d n o h none e = none (untold d.parameters) (ap (seen G.datatypes) e ∙ own_seen G s d o h)
+other_data : (G : Sc) (s : ℕ) (d : Dt) (n : Cn) → OwnSymbols G → datatype_of G.datatypes s ≡ Some d → ((args : List Cn) → seen G.datatypes n ≡ a_datatype d args → ⊥) → n ≢ at_types (basic s) (untold (arity d))
+other_data G s d n o h none e = none (untold (arity d)) (ap (seen G.datatypes) e ∙ own_seen G s d o h)
 
 deeper : (a n : Cn) → arrow a n ≢ n
 deeper a n e = let h : suc (max (depth a) (depth n)) ≡ depth n = ap depth e in omega (arith, h)
@@ -258,13 +258,11 @@ twice_differs (own.second_of h) = second_differs h
 twice_differs (own.later_twice h) = twice_differs h
 
 node_differs : {G : Sc} {c u : Cn} {xs : Xs} {f : Fault} → NodeFault G c u xs f → SidesDiffer f
-node_differs (own.no_tree {k = k} {v = v} e n h p q) = λ i. h (k, v, no_types, sym i)
-node_differs (own.no_tree_in_large e n h l) = tt
-node_differs (own.large_tree e n) = tt
-node_differs (own.other_place e n w) = wants_differ w
-node_differs (own.filled_before e n m) = meets_differ m
-node_differs (own.filled_behind e n xs m) = meets_differ m
-node_differs (own.later_node e n h) = node_differs h
+node_differs (own.fills_kind k) = kind_differs k
+node_differs (own.other_place k e w) = wants_differ w
+node_differs (own.filled_before k m) = meets_differ m
+node_differs (own.filled_behind k xs m) = meets_differ m
+node_differs (own.later_node k h) = node_differs h
 
 nothing_differs : (n : Cn) → nothing_like n ≢ n
 nothing_differs unit_con e = cc
@@ -283,7 +281,24 @@ nothing_differs (map_of k l) e = cc
 nothing_differs (tuple cs) e = cc
 nothing_differs (proj a n) e = cc
 
-held_differs : {p : Place} {t : Cn} {f : Fault} → NotHeld p t f → SidesDiffer f
+words_differ : (n : Cn) → words_like n ≢ n
+words_differ unit_con e = cc
+words_differ (var i) e = cc
+words_differ (basic s) e = cc
+words_differ (arrow a b) e = cc
+words_differ (poly x k b) e = cc
+words_differ (guarded a b c) e = cc
+words_differ (record_of a) e = cc
+words_differ (app a b) e = cc
+words_differ (lambda k b) e = cc
+words_differ (name s) e = cc
+words_differ (row k ps) e = cc
+words_differ (cat a b) e = cc
+words_differ (map_of k l) e = cc
+words_differ (tuple cs) e = cc
+words_differ (proj a n) e = cc
+
+held_differs : {G : Sc} {p : Place} {t : Cn} {f : Fault} → NotHeld G p t f → SidesDiffer f
 held_differs (held_there {n = n} e) = nothing_differs n
 held_differs (large_there e) = tt
 
@@ -306,7 +321,7 @@ element_differs (own.large_on_other h k n) = tt
 element_differs (own.holds_nothing s e w) = held_differs w
 element_differs (own.input_holds_nothing s e w) = held_differs w
 element_differs (own.button_holds_nothing s e w) = held_differs w
-element_differs (own.no_words s h e n d) = λ i. d (sym i)
+element_differs (own.no_words {n = n} s h e m) = words_differ n
 element_differs (own.large_words s h e n) = tt
 element_differs (own.in_nodes o s i a h) = node_differs h
 element_differs (own.in_title o s a h) = node_differs h
@@ -352,6 +367,10 @@ own_differs o (own.row_not_there {n = n} {r = r} e x k h) = part_lacks r n h
 own_differs o (own.no_folder h) = tt
 own_differs o (own.folder_kind k) = kind_differs k
 own_differs o (own.an_element h) = element_differs h
+own_differs o (own.literal_context k) = kind_differs k
+own_differs o (own.literal_uses k) = kind_differs k
+own_differs o (own.literal_node k l h) = node_differs h
+own_differs o own.no_rule = tt
 
 -- parts have the datatypes of the whole
 local_symbols : {G H : Sc} {ls : Los} {e : Ex} → InLocals G ls H e → OwnSymbols G → OwnSymbols H
@@ -385,6 +404,8 @@ part_symbols tells.cut_from o = o
 part_symbols tells.row_cut_from o = o
 part_symbols (tells.attribute_term h) o = o
 part_symbols (tells.inner_node h) o = o
+part_symbols (tells.literal_node h) o = o
+part_symbols (tells.sql_term h) o = o
 
 pub told_differs : {G : Sc} {e : Ex} {f : Fault} → OwnSymbols G → Tells G e f → SidesDiffer f
 told_differs o (tells_own h first parts) = own_differs o h

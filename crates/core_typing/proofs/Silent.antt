@@ -7,7 +7,7 @@ use Rattle.core_terms.specs.Trees.{Pt, Ex, Its, Nms, Los, Brs, Fds, Ats, Xs}
 use Rattle.core_typing.specs.Scopes.{Sc, under, under_guard}
 use Rattle.core_typing.specs.Cover.{Covers}
 use Rattle.core_typing.specs.PatternFaults.{PatFound}
-use Rattle.core_typing.specs.Found.{FoundBy, fn_has, fn_con_has, fn_guard_has, call_has, let_has, case_has, ascribed_has, fields_have, select_has, concat_has, without_has, without_row_has, element_has, Leads, past_term, past_con, past_guard, EachFound, branch_found, FieldsFound, field_found, LocalsFound, nothing_found, val_found, rec_found, NamedFound, name_found, holding_found, words_found, empty_found, form_found, input_found, button_found, AttributesFound, attribute_found, NodesFound, node_found}
+use Rattle.core_typing.specs.Found.{FoundBy, fn_has, fn_con_has, fn_guard_has, call_has, let_has, case_has, ascribed_has, fields_have, select_has, concat_has, without_has, without_row_has, element_has, Leads, past_term, past_con, past_guard, EachFound, branch_found, FieldsFound, field_found, LocalsFound, nothing_found, val_found, rec_found, NamedFound, name_found, holding_found, words_found, empty_found, form_found, input_found, button_found, AttributesFound, attribute_found, NodesFound, node_found, literal_has, last_found}
 use Rattle.core_typing.specs.Faults.{Fault}
 use Rattle.core_typing.specs.Tells.{InItems, this_item, past_item, InFields, this_field, past_field, InBranches, this_branch, past_branch, InNamed, this_name, past_name, InNodes, this_node, past_node, InLocals, this_val, past_val, this_rec, past_rec, Behind, behind_none, behind_val, behind_rec, InAttributes, this_attribute, past_attribute, Sub, Fails, itself, inside}
 use Rattle.core_typing.specs.Tells as tells
@@ -54,8 +54,10 @@ attribute_in this_attribute (attribute_found {v = v} a e b l o as') = (v, e)
 attribute_in (past_attribute i) (attribute_found a e b l o as') = attribute_in i as'
 
 node_in : {G : Sc} {c u b : Cn} {xs : Xs} {e : Ex} → InNodes xs e → NodesFound Covers G c u xs b → HasType G e
-node_in this_node (node_found {t = t} e n a h xs j) = (t, e)
-node_in {u = u} (past_node i) (node_found {b = b} e n a h xs j) = node_in {u = ordered (cat u b)} i xs
+node_in this_node (last_found {t = t} k e h) = (t, e)
+node_in (past_node i) (last_found k e h) = elim i [ ]
+node_in this_node (node_found {t = t} k e a h xs j) = (t, e)
+node_in {u = u} (past_node i) (node_found {b = b} k e a h xs j) = node_in {u = ordered (cat u b)} i xs
 
 part_found : {G H : Sc} {e c : Ex} {t : Cn} → Sub G e H c → FoundBy Covers G e t → HasType H c
 part_found {G} {c = b} (tells.fn_body l p) (fn_has {u = u} k q c e) = (u, subst (λ ts. FoundBy Covers (under ts G) b u) (sym (one_pattern p q)) e)
@@ -88,6 +90,8 @@ part_found (tells.inner_node i) (element_has (empty_found o s h k as')) = elim i
 part_found (tells.inner_node i) (element_has (form_found s h k l as' xs)) = node_in i xs
 part_found (tells.inner_node i) (element_has (input_found s h k l as')) = elim i [ ]
 part_found (tells.inner_node i) (element_has (button_found s h k as' a)) = elim i [ ]
+part_found (tells.literal_node i) (literal_has k l xs) = node_in i xs
+part_found (tells.sql_term i) h = elim h [ ]
 
 pub fails_out : {G : Sc} {e : Ex} {t : Cn} {f : Fault} → Fails G e f → FoundBy Covers G e t → ⊥
 fails_out (itself o) h = own_out o h

@@ -1,5 +1,5 @@
 -- The routes of an accepted program have names by which calls are told apart.
-use Rattle.std.proofs.Common.{◌≡◌, ℕ, zero, suc, ◌<◌, ◌≤◌, Bool, true, false, ◌==◌, List, [], ◌∷◌, map, length, get_or, Option, Some, None, option_map, slice_get, ◌⊎◌, inl, inr, refl, ap, sym, subst, ◌∙◌, arith}
+use Rattle.std.proofs.Common.{◌≡◌, ℕ, zero, suc, ◌<◌, ◌≤◌, Bool, true, false, ◌==◌, List, [], ◌∷◌, map, length, get_or, Option, Some, None, option_map, slice_get, ◌⊎◌, inl, inr, refl, ap, sym, subst, ◌∙◌, arith, ◌++◌}
 use Rattle.std.specs.List.{AllByRecursion, Contains}
 use Rattle.std.proofs.lemmas.Bool.Decides.{Decides-eqb}
 use Rattle.std.proofs.lemmas.Option.{slice_get-map, slice_get-get_or, get_or_from_slice_get, slice_get_within}
@@ -12,12 +12,13 @@ use Rattle.link_router.specs.Links.{Route}
 use Rattle.link_router.specs.RouteLaws.{IsPlain, AreNamed}
 use Rattle.link_router.proofs.Sent.{listed_in}
 use Rattle.link_router.proofs.OneCall.{one_call}
-use Rattle.core_terms.specs.Trees.{Cd, Dt, De, Pg}
+use Rattle.core_terms.specs.Trees.{Cd, Dt, De, Pg, arity}
 use Rattle.core_typing.specs.Asks.{Asks}
 use Rattle.core_typing.specs.Declarations.{Value, values, datatypes, Distinct, DeclsTyped, no_decls, a_val, some_vals, a_con, a_datatype}
-use Rattle.core_typing.specs.Entries.{IsEntry, by_export, by_link, by_action, EntriesFrom, no_values, neither, get_alone, post_alone, get_and_post, RoutesOf, DatatypesShaped, no_datatype, carried, not_carried, CasesShaped, no_case, a_case, all_datatypes, two_texts, value_name}
+use Rattle.core_typing.specs.Entries.{IsEntry, by_export, by_link, by_action, EntriesFrom, no_values, neither, get_alone, post_alone, get_and_post, RoutesOf, DatatypesShaped, no_datatype, carried, not_carried, CasesShaped, no_case, a_case, all_datatypes, value_name}
 use Rattle.core_typing.specs.Accepts.{Accepts, EntriesDiffer}
 use Rattle.core_typing.proofs.Differing.{distinct_by_test}
+use Rattle.core_typing.specs.SiteLaws.{NoEntryBeginsAnother}
 
 some_is : {X : Type 0} {x y : X} → Some x ≡ Some y → x ≡ y
 some_is h = cc
@@ -33,28 +34,44 @@ plain_at [] h i t e = no_place e
 plain_at (u ∷ us) h zero t e = subst IsPlain (some_is e) h.0
 plain_at (u ∷ us) h (suc i) t e = plain_at us h.1 i t e
 
+plain_or : (ts : List (List ℕ)) → AllByRecursion IsPlain ts → (i : ℕ) → IsPlain (get_or ts i [])
+plain_or [] h i = tt
+plain_or (u ∷ us) h zero = h.0
+plain_or (u ∷ us) h (suc i) = plain_or us h.1 i
+
+all_plain : (ts : List (List ℕ)) → AllByRecursion IsPlain ts → (xs : List ℕ) → AllByRecursion IsPlain (map (λ x. get_or ts x []) xs)
+all_plain ts h [] = tt
+all_plain ts h (x ∷ xs) = (plain_or ts h x, all_plain ts h xs)
+
 -- names of values
 record NamedWell (name : List (List ℕ)) : Type 0 where
-  two : length name ≡ 2
+  some : 0 < length name
   plain : AllByRecursion IsPlain name
 
-two_there : (ms ns : List (List ℕ)) (i j : ℕ) → i < length ms → j < length ns → AllByRecursion IsPlain ms → AllByRecursion IsPlain ns → NamedWell (two_texts (slice_get ms i) (slice_get ns j))
-two_there ms ns i j h k p q =
-    let m = slice_get-get_or ms i [] h in
-    let n = slice_get-get_or ns j [] k in
-    subst (λ x. NamedWell (two_texts x (slice_get ns j))) (sym m)
-    (subst (λ y. NamedWell (two_texts (Some (get_or ms i [])) y)) (sym n)
-    (record { two = refl; plain = (plain_at ms p i (get_or ms i []) m, (plain_at ns q j (get_or ns j []) n, tt)) }))
+named_value : {p : Pg} (a : Accepts p) (v : Value) → NamedWell (value_name p v)
+named_value {p} a v = record { some = omega arith; plain = (plain_or p.modules a.formed.plain_modules v.place.file, all_plain p.names a.formed.plain (v.path ++ v.name ∷ [])) }
 
-named_value : {p : Pg} (a : Accepts p) (i : ℕ) (v : Value) → slice_get (values p.decls) i ≡ Some v → NamedWell (value_name p v)
-named_value {p} a i v e =
-    let (f, n) = a.formed.located v (listed_in (values p.decls) i v e) in
-    two_there p.modules p.names v.place.file v.name f n a.formed.plain_modules a.formed.plain
+-- the value of an entry
+record OfValue (p : Pg) (e : Ent) : Type 0 where
+  value : Value
+  there : Contains (values p.decls) value
+  called : e.name ≡ value_name p value
+
+of_value : {p : Pg} {i : ℕ} {post : Bool} {e : Ent} → IsEntry p i post e → OfValue p e
+of_value {p} (by_export {i = i} {v = v} h c q) = record { value = v; there = listed_in (values p.decls) i v h; called = refl }
+of_value {p} (by_link {i = i} {v = v} h c q) = record { value = v; there = listed_in (values p.decls) i v h; called = refl }
+of_value {p} (by_action {i = i} {v = v} h c q) = record { value = v; there = listed_in (values p.decls) i v h; called = refl }
+
+pub none_begins : NoEntryBeginsAnother
+none_begins p i j post posts e d more a h g s =
+    let x = of_value h in
+    let y = of_value g in
+    a.formed.names_begin_none x.value y.value more x.there y.there (ap (λ n. n ++ more) (sym x.called) ∙ s ∙ y.called)
 
 named_entry : {p : Pg} {i : ℕ} {post : Bool} {e : Ent} → Accepts p → IsEntry p i post e → NamedWell e.name
-named_entry a (by_export {i = i} {v = v} h c q) = named_value a i v h
-named_entry a (by_link {i = i} {v = v} h c q) = named_value a i v h
-named_entry a (by_action {i = i} {v = v} h c q) = named_value a i v h
+named_entry a (by_export {i = i} {v = v} h c q) = named_value a v
+named_entry a (by_link {i = i} {v = v} h c q) = named_value a v
+named_entry a (by_action {i = i} {v = v} h c q) = named_value a v
 
 -- entries in their list
 entry_post : {p : Pg} {i : ℕ} {post : Bool} {e : Ent} → IsEntry p i post e → is_post e.form ≡ post
@@ -183,11 +200,11 @@ record ShapeOfOne (names : List (List ℕ)) (all ds : List Dt) (cs : Cases) : Ty
   place : ℕ
   datatype : Dt
   at : slice_get ds place ≡ Some datatype
-  shaped : CasesShaped names all datatype.parameters datatype.constructors cs
+  shaped : CasesShaped names all (arity datatype) datatype.constructors cs
 
 datatype_at : {names : List (List ℕ)} {all ds : List Dt} {css : List Cases} → DatatypesShaped names all ds css → (k : ℕ) (cs : Cases) → slice_get css k ≡ Some cs → ([] ≡ cs) ⊎ ShapeOfOne names all ds cs
 datatype_at no_datatype k cs e = no_place e
-datatype_at {names} {all} (carried {d = d} s r) zero cs e = inr (record { place = 0; datatype = d; at = refl; shaped = subst (λ (x : Cases). CasesShaped names all d.parameters d.constructors x) (some_is e) s })
+datatype_at {names} {all} (carried {d = d} s r) zero cs e = inr (record { place = 0; datatype = d; at = refl; shaped = subst (λ (x : Cases). CasesShaped names all (arity d) d.constructors x) (some_is e) s })
 datatype_at (not_carried s r) zero cs e = inl (some_is e)
 datatype_at (carried s r) (suc k) cs e = elim (datatype_at r k cs e) [ inl q ↦ inl q | inr w ↦ inr (record { place = suc w.place; datatype = w.datatype; at = w.at; shaped = w.shaped }) ]
 datatype_at (not_carried s r) (suc k) cs e = elim (datatype_at r k cs e) [ inl q ↦ inl q | inr w ↦ inr (record { place = suc w.place; datatype = w.datatype; at = w.at; shaped = w.shaped }) ]
@@ -222,9 +239,19 @@ constructor_once {p} {routes} a r cs n h k c i j =
           ap (λ (x : List ℕ × Option Sh). x.1) (some_is (sym here ∙ ap (slice_get cs) place ∙ there)))
     ]
 
+begin_none : {p : Pg} {routes : Rts} {callees : List ℕ} → Accepts p → RoutesOf p routes callees → (e d : Ent) (more : List (List ℕ)) → Contains routes.entries e → Contains routes.entries d → e.name ++ more ≡ d.name → more ≡ []
+begin_none {p} {routes} a r e d more c g s =
+    let (k, at) = place_of routes.entries e c in
+    let (l, at2) = place_of routes.entries d g in
+    let (x, here, is) = found_entry r k e at in
+    let (y, there, is2) = found_entry r l d at2 in
+    none_begins p x.0 y.0 (is_post x.1.form) (is_post y.1.form) x.1 y.1 more a (listed_at r.are_entries k x here).is_entry (listed_at r.are_entries l y there).is_entry
+    (ap (λ (z : Ent). z.name ++ more) is ∙ s ∙ ap (λ (z : Ent). z.name) (sym is2))
+
 pub routes_named : {p : Pg} {routes : Rts} {callees : List ℕ} → Accepts p → RoutesOf p routes callees → AreNamed routes
 routes_named a r = record {
-  two_pieces = λ e c. (entry_named a r e c).two;
+  some_pieces = λ e c. (entry_named a r e c).some;
+  none_begins = begin_none a r;
   plain_names = λ e c. (entry_named a r e c).plain;
   entries_differ = entries_apart a r;
   plain_constructors = constructor_plain a r;

@@ -12,7 +12,7 @@ use Rattle.core_terms.specs.Types.{one_field}
 use Rattle.core_typing.specs.Scopes.{Sc, under, under_con, under_guard}
 use Rattle.core_typing.specs.Patterns.{PatTyped, PatFieldsTyped}
 use Rattle.core_typing.specs.Patterns as pat
-use Rattle.core_typing.specs.Typed.{Typed, by_equal, of_bound, of_top, of_foreign, of_basis, of_fold, of_number, of_text, of_built, of_fn, of_fn_con, of_fn_guard, of_call, of_let, of_case, of_ascribed, of_fields, of_select, of_concat, of_without, of_without_row, of_folder, of_element, Applies, to_nothing, to_equal, to_term, to_con, to_guard, Declares, nothing, one_name, names_together, NamedTyped, no_name, each_name, ElementTyped, of_holding, of_words_alone, of_empty, of_form, of_input, of_button, named_types}
+use Rattle.core_typing.specs.Typed.{Typed, by_equal, of_bound, of_top, of_foreign, of_basis, of_fold, of_number, of_text, of_built, of_fn, of_fn_con, of_fn_guard, of_call, of_let, of_case, of_ascribed, of_fields, of_select, of_concat, of_without, of_without_row, of_folder, of_element, Applies, to_nothing, to_equal, to_term, to_con, to_guard, Declares, nothing, one_name, names_together, NamedTyped, no_name, each_name, ElementTyped, of_holding, of_words_alone, of_empty, of_form, of_input, of_button, named_types, of_literal}
 use Rattle.core_typing.specs.Grounded.{HasTypes, at_top}
 use Rattle.core_typing.proofs.Closed.{closed}
 use Rattle.core_typing.proofs.KindsStay.{kinds_stay, shift_walks, kinded_wider, kinds_substitute, under_one, assumed_too}
@@ -48,7 +48,7 @@ both_are {G} (t ∷ ts) us h k = more_are t (ts ++ us) (h 0 t refl) (both_are ts
 has_under : {G : Sc} (ts : List Cn) → AreTypes G.kinds ts → HasTypes G → HasTypes (under ts G)
 has_under {G} ts k h = record { grounded = grounded_under ts h.grounded; locals = both_are ts G.locals k h.locals }
 
-has_con : {G : Sc} (k : Kd) → HasTypes G → HasTypes (under_con k G)
+has_con : {G : Sc} {x : ℕ} (k : Kd) → HasTypes G → HasTypes (under_con x k G)
 has_con {G} k h = record { grounded = grounded_con k h.grounded; locals = each }
   where
     each : AreTypes (bind k G.kinds) (map (λ t. shift 1 t 0) G.locals)
@@ -133,6 +133,7 @@ mutual
   type_kind h (of_without_row k e) = of_record (rest_in (row_in (type_kind h e)))
   type_kind h (of_folder {k = k} {s = s} e j) = of_app (of_basic (h.grounded.folders k s e)) j
   type_kind h (of_element m) = element_kind m
+  type_kind h (of_literal k l xs x) = x
 
   -- of what a function of this type gives
   result_kind : {G : Sc} {t u : Cn} {is : Its} → HasTypes G → Kinded G.kinds t types → Applies kinds_asked G t is u → Kinded G.kinds u types

@@ -11,7 +11,7 @@ use Rattle.core_terms.specs.declared.markup.TagName.{TagName}
 use Rattle.core_terms.specs.declared.markup.TagName.TheVariants.{P, Div, Span, B, I, Em, Strong, H1, H2, H3, H4, Ul, Ol, Li, Code, Blockquote, A, Img, Table, Th, Td, Textbox, Password, Hidden, Checkbox, Submit}
 use Rattle.core_terms.specs.declared.markup.AttrName.{AttrName}
 use Rattle.core_terms.specs.declared.markup.AttrName.TheVariants as attr
-use Rattle.core_terms.specs.Trees.{Pt, Pfs, Ex, Its, Nms, no_named, named, Los, Brs, no_branches, branch, Fds, El, Ats, no_attributes, attribute, Xs, no_nodes, a_node, Cd}
+use Rattle.core_terms.specs.Trees.{Pt, Pfs, Ex, Its, Nms, no_named, named, Los, Brs, no_branches, branch, Fds, El, Ats, no_attributes, attribute, Xs, no_nodes, a_node, Cd, arity}
 use Rattle.core_typing.specs.Asks.{Asks}
 use Rattle.core_terms.specs.Types.{one_field, xml_of}
 use Rattle.core_terms.specs.Datatypes.{datatype_of}
@@ -19,7 +19,7 @@ use Rattle.core_terms.specs.Markup.{Where, in_html, in_head, in_body, in_table, 
 use Rattle.core_typing.specs.Scopes.{Sc, under}
 use Rattle.core_typing.specs.Patterns.{PatTyped, PatFieldsTyped, AtConstructor}
 use Rattle.core_typing.specs.Patterns as pat
-use Rattle.core_typing.specs.Typed.{Typed, by_equal, of_bound, of_top, of_foreign, of_basis, of_fold, of_number, of_text, of_built, of_fn, of_fn_con, of_fn_guard, of_call, of_let, of_case, of_ascribed, of_fields, of_select, of_concat, of_without, of_without_row, of_folder, of_element, Applies, to_nothing, to_equal, to_term, to_con, to_guard, EachTyped, no_branch, each_branch, FieldsTyped, no_field, each_field, Declares, nothing, one_name, names_together, NamedTyped, no_name, each_name, ElementTyped, of_holding, of_words_alone, of_empty, of_form, of_input, of_button, AttributesTyped, no_attribute, each_attribute, NodesTyped, no_node, each_node, AreTerms, no_term, one_more, IsCallOf, alone, applied, IsLinked, as_link, as_action, as_title, as_href, as_src, as_alt, as_border, as_value, as_size, HasAttribute, first, later, IsWords, of_cdata, of_txt, of_join, AllWords, no_words, words_term, words_con, words_guard, NodesAreWords, named_types, branch_patterns}
+use Rattle.core_typing.specs.Typed.{Typed, by_equal, of_bound, of_top, of_foreign, of_basis, of_fold, of_number, of_text, of_built, of_fn, of_fn_con, of_fn_guard, of_call, of_let, of_case, of_ascribed, of_fields, of_select, of_concat, of_without, of_without_row, of_folder, of_element, Applies, to_nothing, to_equal, to_term, to_con, to_guard, EachTyped, no_branch, each_branch, FieldsTyped, no_field, each_field, Declares, nothing, one_name, names_together, NamedTyped, no_name, each_name, ElementTyped, of_holding, of_words_alone, of_empty, of_form, of_input, of_button, AttributesTyped, no_attribute, each_attribute, NodesTyped, no_node, each_node, AreTerms, no_term, one_more, IsCallOf, alone, applied, IsLinked, as_link, as_action, as_title, as_href, as_src, as_alt, as_border, as_value, as_size, HasAttribute, first, later, IsWords, of_cdata, of_txt, NodesAreWords, named_types, branch_patterns, of_literal, last_node}
 use Rattle.core_typing.specs.Carried.{ShowsPage, SendsForm}
 use Rattle.core_typing.specs.ConSubstitution.{pattern_replaced, pattern_fields_replaced, term_replaced, items_replaced, named_replaced, locals_replaced, branches_replaced, fields_replaced, element_replaced, attributes_replaced, nodes_replaced}
 use Rattle.core_typing.proofs.Moving.{Walks, kinded_moved, apart_moved}
@@ -55,7 +55,7 @@ mutual
   pattern_moves {A} {f = f} {n = n} {H = H} {q = q} g w (pat.of_bare {s = s} {args = args} a h) =
       subst (λ x. PatTyped A H (pattern_replaced f q n) x []) (sym (at_types_moved f n (basic s) args)) (pat.of_bare (constructor_moves w a) h)
   pattern_moves {A} {f = f} {n = n} {G = G} {H = H} {q = q} {ts = ts} g w (pat.of_holding {s = s} {j = j} {args = args} {c = c} {held = held} {q = r} a h p) =
-      let same = held_moved g.walks n a.declared_as.parameters args held a.number_of_types (w.grounded.held s j a.declared_as c held a.declared a.constructor h) in
+      let same = held_moved g.walks n (arity a.declared_as) args held a.number_of_types (w.grounded.held s j a.declared_as c held a.declared a.constructor h) in
       let inner = subst (λ x. PatTyped A H (pattern_replaced f r n) x (map (λ x. replaced f x n) ts)) same (pattern_moves g w p) in
       subst (λ x. PatTyped A H (pattern_replaced f q n) x (map (λ x. replaced f x n) ts)) (sym (at_types_moved f n (basic s) args)) (pat.of_holding (constructor_moves w a) h inner)
   pattern_moves g w (pat.of_fields fs) = pat.of_fields (pattern_fields_move g w fs)
@@ -95,21 +95,13 @@ link_moves w as_border = as_border
 link_moves w as_value = as_value
 link_moves w as_size = as_size
 
-mutual
-  words_move : (f : ℕ → ℕ → Cn) {e : Ex} (n : ℕ) → IsWords e → IsWords (term_replaced f e n)
-  words_move f n of_cdata = of_cdata
-  words_move f n of_txt = of_txt
-  words_move f n (of_join h) = of_join (all_words_move f n h)
-
-  all_words_move : (f : ℕ → ℕ → Cn) {is : Its} (n : ℕ) → AllWords is → AllWords (items_replaced f is n)
-  all_words_move f n no_words = no_words
-  all_words_move f n (words_term h k) = words_term (words_move f n h) (all_words_move f n k)
-  all_words_move f n (words_con h) = words_con (all_words_move f n h)
-  all_words_move f n (words_guard h) = words_guard (all_words_move f n h)
+words_move : (f : ℕ → ℕ → Cn) {e : Ex} (n : ℕ) → IsWords e → IsWords (term_replaced f e n)
+words_move f n of_cdata = of_cdata
+words_move f n of_txt = of_txt
 
 nodes_are_words_move : (f : ℕ → ℕ → Cn) (xs : Xs) (n : ℕ) → NodesAreWords xs → NodesAreWords (nodes_replaced f xs n)
 nodes_are_words_move f no_nodes n h = tt
-nodes_are_words_move f (a_node e xs) n h = (words_move f n h.0, nodes_are_words_move f xs n h.1)
+nodes_are_words_move f (a_node b e xs) n h = (words_move f n h.0, nodes_are_words_move f xs n h.1)
 
 has_moves : (f : ℕ → ℕ → Cn) {as' : Ats} {a : AttrName} (n : ℕ) → HasAttribute as' a → HasAttribute (attributes_replaced f as' n) a
 has_moves f n first = first
@@ -224,6 +216,7 @@ mutual
   typed_moves g w (of_without_row k e) = of_without_row (kinds_move g w k) (typed_moves g w e)
   typed_moves g w (of_folder {k = k} {s = s} h j) = of_folder (subst (λ fs. Contains fs (k, s)) (sym w.folders) h) (kinds_move g w j)
   typed_moves g w (of_element m) = of_element (element_moves g w m)
+  typed_moves g w (of_literal k l xs x) = of_literal (kinds_move g w k) (kinds_move g w l) (nodes_move g w xs) (g.exchange w.kinds x)
 
   applies_move : {A : Asks} {I : Scope → Cn → Kd → Type 0} {f : ℕ → ℕ → Cn} {n : ℕ} {G H : Sc} {is : Its} {t u : Cn} → Goes A I f → Walked I f n G H → Applies A G t is u → Applies A H (replaced f t n) (items_replaced f is n) (replaced f u n)
   applies_move g w to_nothing = to_nothing
@@ -284,4 +277,5 @@ mutual
 
   nodes_move : {A : Asks} {I : Scope → Cn → Kd → Type 0} {f : ℕ → ℕ → Cn} {n : ℕ} {G H : Sc} {c u b : Cn} {xs : Xs} → Goes A I f → Walked I f n G H → NodesTyped A G c u xs b → NodesTyped A H (replaced f c n) (replaced f u n) (nodes_replaced f xs n) (replaced f b n)
   nodes_move g w no_node = no_node
-  nodes_move g w (each_node e a xs b) = each_node (typed_moves g w e) (apart_moves g w a) (nodes_move g w xs) (apart_moves g w b)
+  nodes_move g w (last_node k e) = last_node (kinds_move g w k) (typed_moves g w e)
+  nodes_move g w (each_node k e a xs b) = each_node (kinds_move g w k) (typed_moves g w e) (apart_moves g w a) (nodes_move g w xs) (apart_moves g w b)

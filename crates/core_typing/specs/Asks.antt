@@ -9,7 +9,8 @@ use Rattle.core_typing.specs.Cover.{Covers}
 abbrev pub CoverAsked : Type 1
 CoverAsked = List Dt → List Pt → Cn → Type 0
 
--- what is asked of the patterns of a case and of a function's parameter, and of a type that another is exchanged for: an equal one, or one that a proved guard is taken off
+-- what is asked of the patterns of a case and of a function's parameter, and of a type that another is exchanged
+-- for: an equal one, or one that a proved guard is taken off
 pub record Asks : Type 1 where
   pub cover : CoverAsked
   pub exchange : Scope → Cn → Type 0

@@ -1,4 +1,5 @@
--- How two constructors, two rows, and a row and its fields compare by normal forms. One comparison has 100,000 units for both sides.
+-- How two constructors, two rows, and a row and its fields compare by normal forms. One comparison has 100,000
+-- units for both sides.
 -- The Ur/Web Manual, "Definitional Equality" and "Record Disjointness".
 use Rattle.std.specs.Prelude.{◌≡◌, ◌≢◌, ◌&&◌, List, [], ◌∷◌, Option, Some, None, option_map, Ok, Err, if◌then◌else◌}
 use Rattle.con_terms.specs.Trees.{Cn, types, record_of, no_pairs, pair, row}

@@ -54,16 +54,45 @@ mutual
   -- the shapes of a type down to a depth; deeper, and where the type tells no more, there are leaves alone
   pub data ShapeOf : List Dt → ℕ → Cn → Shp → Type 0 where
     deeper : {ds : List Dt} {t : Cn} → ShapeOf ds zero t leaf
-    no_more : {ds : List Dt} {d : ℕ} {t n : Cn} → normal_of t ≡ Some n → seen ds n ≡ nothing_more → ShapeOf ds (suc d) t leaf
-    of_number : {ds : List Dt} {d : ℕ} {t n : Cn} {z : ℤ} → normal_of t ≡ Some n → seen ds n ≡ a_number → FitsSigned w64 z → ShapeOf ds (suc d) t (number_shape z)
-    of_text : {ds : List Dt} {d : ℕ} {t n : Cn} {w : List ℕ} → normal_of t ≡ Some n → seen ds n ≡ a_text → IsUtf8 w → ShapeOf ds (suc d) t (text_shape w)
-    of_bare : {ds : List Dt} {d j : ℕ} {t n : Cn} {x : Dt} {args : List Cn} {c : Cd} → normal_of t ≡ Some n → seen ds n ≡ a_datatype x args → slice_get x.constructors j ≡ Some c → c.holds ≡ None → ShapeOf ds (suc d) t (bare_shape x.symbol j)
-    of_holding : {ds : List Dt} {d j : ℕ} {t n held : Cn} {x : Dt} {args : List Cn} {c : Cd} {s : Shp} → normal_of t ≡ Some n → seen ds n ≡ a_datatype x args → slice_get x.constructors j ≡ Some c → c.holds ≡ Some held → ShapeOf ds d (held_at args held) s → ShapeOf ds (suc d) t (holding_shape x.symbol j s)
-    of_record : {ds : List Dt} {d : ℕ} {t n : Cn} {fs : List (Cn × Cn)} {ss : Shf} → normal_of t ≡ Some n → seen ds n ≡ a_record fs → ShapesOf ds d fs ss → ShapeOf ds (suc d) t (record_shape ss)
+    no_more : {ds : List Dt} {d : ℕ} {t n : Cn}
+        → normal_of t ≡ Some n
+        → seen ds n ≡ nothing_more
+        → ShapeOf ds (suc d) t leaf
+    of_number : {ds : List Dt} {d : ℕ} {t n : Cn} {z : ℤ}
+        → normal_of t ≡ Some n
+        → seen ds n ≡ a_number
+        → FitsSigned w64 z
+        → ShapeOf ds (suc d) t (number_shape z)
+    of_text : {ds : List Dt} {d : ℕ} {t n : Cn} {w : List ℕ}
+        → normal_of t ≡ Some n
+        → seen ds n ≡ a_text
+        → IsUtf8 w
+        → ShapeOf ds (suc d) t (text_shape w)
+    of_bare : {ds : List Dt} {d j : ℕ} {t n : Cn} {x : Dt} {args : List Cn} {c : Cd}
+        → normal_of t ≡ Some n
+        → seen ds n ≡ a_datatype x args
+        → slice_get x.constructors j ≡ Some c
+        → c.holds ≡ None
+        → ShapeOf ds (suc d) t (bare_shape x.symbol j)
+    of_holding : {ds : List Dt} {d j : ℕ} {t n held : Cn} {x : Dt} {args : List Cn} {c : Cd} {s : Shp}
+        → normal_of t ≡ Some n
+        → seen ds n ≡ a_datatype x args
+        → slice_get x.constructors j ≡ Some c
+        → c.holds ≡ Some held
+        → ShapeOf ds d (held_at args held) s
+        → ShapeOf ds (suc d) t (holding_shape x.symbol j s)
+    of_record : {ds : List Dt} {d : ℕ} {t n : Cn} {fs : List (Cn × Cn)} {ss : Shf}
+        → normal_of t ≡ Some n
+        → seen ds n ≡ a_record fs
+        → ShapesOf ds d fs ss
+        → ShapeOf ds (suc d) t (record_shape ss)
 
   pub data ShapesOf : List Dt → ℕ → List (Cn × Cn) → Shf → Type 0 where
     of_no_fields : {ds : List Dt} {d : ℕ} → ShapesOf ds d [] no_shape_fields
-    of_field : {ds : List Dt} {d : ℕ} {x t : Cn} {fs : List (Cn × Cn)} {s : Shp} {ss : Shf} → ShapeOf ds d t s → ShapesOf ds d fs ss → ShapesOf ds d ((x, t) ∷ fs) (shape_field x s ss)
+    of_field : {ds : List Dt} {d : ℕ} {x t : Cn} {fs : List (Cn × Cn)} {s : Shp} {ss : Shf}
+        → ShapeOf ds d t s
+        → ShapesOf ds d fs ss
+        → ShapesOf ds d ((x, t) ∷ fs) (shape_field x s ss)
 
 -- the shape of the field with a name; a leaf where there is none
 abbrev pub shape_at : Shf → Cn → Shp
@@ -110,11 +139,25 @@ pub record Misses (ds : List Dt) (ps : List Pt) (t : Cn) (s : Shp) : Type 0 wher
 
 -- the type of a part that lies no deeper than a depth is too large
 pub data TooLargeIn : List Dt → ℕ → Cn → Type 0 where
-  itself : {ds : List Dt} {d : ℕ} {t : Cn} → normal_of t ≡ None → TooLargeIn ds (suc d) t
-  in_held : {ds : List Dt} {d : ℕ} (j : ℕ) {t n held : Cn} {x : Dt} {args : List Cn} {c : Cd} → normal_of t ≡ Some n → seen ds n ≡ a_datatype x args → slice_get x.constructors j ≡ Some c → c.holds ≡ Some held → TooLargeIn ds d (held_at args held) → TooLargeIn ds (suc d) t
-  in_field : {ds : List Dt} {d : ℕ} (x : Cn) {t n u : Cn} {fs : List (Cn × Cn)} → normal_of t ≡ Some n → seen ds n ≡ a_record fs → Contains fs (x, u) → TooLargeIn ds d u → TooLargeIn ds (suc d) t
+  itself : {ds : List Dt} {d : ℕ} {t : Cn}
+      → normal_of t ≡ None
+      → TooLargeIn ds (suc d) t
+  in_held : {ds : List Dt} {d : ℕ} (j : ℕ) {t n held : Cn} {x : Dt} {args : List Cn} {c : Cd}
+      → normal_of t ≡ Some n
+      → seen ds n ≡ a_datatype x args
+      → slice_get x.constructors j ≡ Some c
+      → c.holds ≡ Some held
+      → TooLargeIn ds d (held_at args held)
+      → TooLargeIn ds (suc d) t
+  in_field : {ds : List Dt} {d : ℕ} (x : Cn) {t n u : Cn} {fs : List (Cn × Cn)}
+      → normal_of t ≡ Some n
+      → seen ds n ≡ a_record fs
+      → Contains fs (x, u)
+      → TooLargeIn ds d u
+      → TooLargeIn ds (suc d) t
 
--- how deep types are looked at: where the deepest constructor, record or literal stands, and at least at the type itself
+-- how deep types are looked at: where the deepest constructor, record or literal stands, and at least at the type
+-- itself
 abbrev pub levels : List Pt → ℕ
 levels ps = max 1 (patterns_depth ps)
 

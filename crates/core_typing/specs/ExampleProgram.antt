@@ -1,6 +1,7 @@
 -- Whole programs, worked out: one value, main, that returns one page; and one with a fault.
 use Rattle.std.specs.Prelude.{true, false, [], ◌∷◌, ◌++◌, None, codes}
 use Rattle.con_terms.specs.Trees.{Cn, name}
+use Rattle.core_terms.specs.declared.exp.Sigil.TheVariants.{Plain}
 use Rattle.core_terms.specs.declared.basis.BasisName.TheVariants.{Return}
 use Rattle.core_terms.specs.declared.markup.TagName.TheVariants as word
 use Rattle.core_terms.specs.Names.{basis_texts}
@@ -20,7 +21,8 @@ abbrev pub one_page : Pg
 one_page = record {
   names = basis_texts ++ codes "main" ∷ [];
   modules = codes "Main" ∷ [];
-  decls = val (byte 0) 35 true (transaction_of page_type) (said (call (said (basis Return)) (with_added page_type (with_term empty_body no_items)))) ∷ [];
+  decls = val [] (byte 0) 35 true (transaction_of page_type) (said (call (said (basis Return)) Plain
+      (with_added page_type (with_term empty_body no_items)))) ∷ [];
   rules = [];
   foreigns = [];
   folders = [];
@@ -36,7 +38,7 @@ abbrev pub clashing_program : Cn → Pg
 clashing_program t = record {
   names = example_texts;
   modules = codes "Main" ∷ [];
-  decls = val (byte 0) x_name false t clashing ∷ [];
+  decls = val [] (byte 0) x_name false t clashing ∷ [];
   rules = [];
   foreigns = [];
   folders = [];
@@ -45,4 +47,5 @@ clashing_program t = record {
 
 -- Whatever that type is, told is not disjoint #A #A, at the first byte of the term.
 abbrev pub ClashOfProgramIsTold : Type 0
-ClashOfProgramIsTold = (t : Cn) → ProgramTells (clashing_program t) (not_disjoint (byte 8) (name a_name) (name a_name))
+ClashOfProgramIsTold = (t : Cn)
+    → ProgramTells (clashing_program t) (not_disjoint (byte 8) [] (name a_name) (name a_name))

@@ -3,6 +3,8 @@ use Rattle.std.specs.Prelude.{ℕ, pos, true, false, List, [], ◌∷◌, ◌++�
 use Rattle.con_terms.specs.Trees.{types, units, names, row_of, Cn, var, basic, arrow, record_of, app, lambda, unit_con, name, row, cat, Prs, no_pairs, pair}
 use Rattle.con_terms.specs.Equal.{mapped}
 use Rattle.con_terms.specs.declared.place.Place.{Place}
+use Rattle.core_terms.specs.declared.exp.Sigil.TheVariants.{Plain, At}
+use Rattle.core_terms.specs.declared.exp.ConOrigin.TheVariants.{Written, Inserted}
 use Rattle.core_terms.specs.declared.basis.BasisName.TheVariants.{Strcat, Divide, NumInt, Txt, ShowString}
 use Rattle.core_terms.specs.declared.markup.TagName.TheVariants as word
 use Rattle.core_terms.specs.declared.markup.AttrName.TheVariants as attr
@@ -24,7 +26,7 @@ abbrev pub put_in : Fo → Ex
 put_in f = node (byte 0) true f
 
 abbrev pub with_added : Cn → Its → Its
-with_added c is = with_con (byte 0) true c is
+with_added c is = with_con (byte 0) Inserted c is
 
 -- the names A and B behind those of the basis, and x, n and r for what binders bind
 abbrev pub a_name : ℕ
@@ -49,14 +51,16 @@ called_x t = pattern (byte 0) (binds x_name true t)
 
 -- 1 / 0
 abbrev pub one_by_zero : Ex
-one_by_zero = said (call (said (basis Divide)) (with_added int_type (with_term (put_in (basis NumInt)) (with_term (said (number (pos 1))) (with_term (said (number (pos 0))) no_items)))))
+one_by_zero = said (call (said (basis Divide)) Plain (with_added int_type
+    (with_term (put_in (basis NumInt)) (with_term (said (number (pos 1)))
+    (with_term (said (number (pos 0))) no_items)))))
 
 -- fun spin () = spin ()
 abbrev pub spin_body : Ex
-spin_body = said (call (said (top 0)) (with_term (said (fields_of no_fields)) no_items))
+spin_body = said (call (said (top 0)) Plain (with_term (said (fields_of no_fields)) no_items))
 
 abbrev pub spin : Ex
-spin = said (fn (pattern (byte 0) (has_fields no_pat_fields false)) true unit_type spin_body)
+spin = said (fn (pattern (byte 0) (has_fields no_pat_fields false)) unit_type spin_body)
 
 -- $(map (fn t => string) r)
 abbrev pub strings : Cn → Cn
@@ -66,30 +70,33 @@ strings r = record_of (mapped types types (lambda types string_type) r)
 abbrev pub nm_field : Cn
 nm_field = one_field (var 2) (var 1)
 
--- fn [nm :: Name] [t :: Type] [r :: {Type}] [[nm] ~ r] (acc : $(map (fn t => string) r) -> string) (x : $(map (fn t => string) ([nm = t] ++ r))) => x.nm ^ acc (x -- nm)
+-- fn [nm :: Name] [t :: Type] [r :: {Type}] [[nm] ~ r] (acc : $(map (fn t => string) r) -> string) (x : $(map (fn t
+-- => string) ([nm = t] ++ r))) => x.nm ^ acc (x -- nm)
 abbrev pub joins_fields : Ex
 joins_fields =
-    said (fn_con x_name false true names (said (fn_con x_name false true types (said (fn_con x_name false true (row_of types)
+    said (fn_con x_name false true names (said
+    (fn_con x_name false true types (said (fn_con x_name false true (row_of types)
     (said (fn_guard (row units (pair (var 2) unit_con no_pairs)) (var 0)
-    (said (fn (called_x (arrow (strings (var 0)) string_type)) true (arrow (strings (var 0)) string_type)
-    (said (fn (called_x (strings (cat nm_field (var 0)))) true (strings (cat nm_field (var 0)))
-    (said (call (said (basis Strcat))
+    (said (fn (called_x (arrow (strings (var 0)) string_type)) (arrow (strings (var 0)) string_type)
+    (said (fn (called_x (strings (cat nm_field (var 0)))) (strings (cat nm_field (var 0)))
+    (said (call (said (basis Strcat)) Plain
     (with_term (said (select (said (bound 0)) (var 2)))
-    (with_term (said (call (said (bound 1)) (with_term (said (without (said (bound 0)) (var 2))) no_items)))
+    (with_term (said (call (said (bound 1)) Plain (with_term (said (without (said (bound 0)) (var 2))) no_items)))
     no_items)))))))))))))))
 
 -- fn (x : {}) => ""
 abbrev pub no_fields_joined : Ex
-no_fields_joined = said (fn (called_x unit_type) true unit_type (said (text [])))
+no_fields_joined = said (fn (called_x unit_type) unit_type (said (text [])))
 
--- fun names [r :: {Type}] (fl : folder r) (x : $(map (fn t => string) r)) : string = @fold [fn r :: {Type} => $(map (fn t => string) r) -> string] (..) (fn (x : {}) => "") fl x, where s is the symbol of folder
+-- fun names [r :: {Type}] (fl : folder r) (x : $(map (fn t => string) r)) : string = @fold [fn r :: {Type} => $(map
+-- (fn t => string) r) -> string] (..) (fn (x : {}) => "") fl x, where s is the symbol of folder
 abbrev pub joined_names : ℕ → Ex
 joined_names s =
     said (fn_con x_name false true (row_of types)
-    (said (fn (called_x (app (basic s) (var 0))) true (app (basic s) (var 0))
-    (said (fn (called_x (strings (var 0))) true (strings (var 0))
-    (said (ascribed (said (call (said (fold_over types))
-    (with_con (byte 0) false (lambda (row_of types) (arrow (strings (var 0)) string_type))
+    (said (fn (called_x (app (basic s) (var 0))) (app (basic s) (var 0))
+    (said (fn (called_x (strings (var 0))) (strings (var 0))
+    (said (ascribed (said (call (said (fold_over types)) At
+    (with_con (byte 0) Written (lambda (row_of types) (arrow (strings (var 0)) string_type))
     (with_term joins_fields
     (with_term no_fields_joined
     (with_added (var 0)
@@ -106,21 +113,26 @@ a_then_b = pair (name a_name) string_type (pair (name b_name) int_type no_pairs)
 -- names [[..]] {B = "B", A = "A"}, with the folder that is inserted for a row
 abbrev pub names_at : Prs → Ex
 names_at ps =
-    said (call (said (top 0)) (with_con (byte 0) false (type_row ps) (with_term (put_in (folder types ps))
-    (with_term (said (fields_of (field (byte 0) (name b_name) (said (text (codes "B"))) (field (byte 0) (name a_name) (said (text (codes "A"))) no_fields)))) no_items))))
+    said (call (said (top 0)) Plain (with_con (byte 0) Written (type_row ps) (with_term (put_in (folder types ps))
+    (with_term (said
+    (fields_of (field (byte 0) (name b_name) (said (text (codes "B")))
+    (field (byte 0) (name a_name) (said (text (codes "A"))) no_fields)))) no_items))))
 
 -- {A = 1} ++ {A = 2}, as it stands behind val x = in a file
 abbrev pub clashing : Ex
 clashing = node (byte 8) false (concat
-    (node (byte 8) false (fields_of (field (byte 9) (name a_name) (node (byte 13) false (number (pos 1))) no_fields)))
-    (node (byte 19) false (fields_of (field (byte 20) (name a_name) (node (byte 24) false (number (pos 2))) no_fields))))
+    (node (byte 8) false (fields_of
+    (field (byte 9) (name a_name) (node (byte 13) false (number (pos 1))) no_fields)))
+    (node (byte 19) false (fields_of
+    (field (byte 20) (name a_name) (node (byte 24) false (number (pos 2))) no_fields))))
 
 -- case o of Some n => n, behind fun f (o : option int) : int =
 abbrev pub some_pattern : Pt
 some_pattern = pattern (byte 41) (is_holding option_name 1 (pattern (byte 46) (binds x_name false int_type)))
 
 abbrev pub without_none : Ex
-without_none = node (byte 31) false (case_of (node (byte 36) false (bound 0)) (byte 41) some_pattern (node (byte 51) false (bound 0)) no_branches)
+without_none = node (byte 31) false (case_of (node (byte 36) false (bound 0)) (byte 41) some_pattern (node (byte 51)
+    false (bound 0)) no_branches)
 
 abbrev pub option_int : Cn
 option_int = app (basic option_name) int_type
@@ -158,7 +170,8 @@ maps_once r = record_of (mapped types types option_lists r)
 abbrev pub map_of_map : Ex
 map_of_map =
     said (fn_con x_name false true (row_of types)
-    (said (fn (called_x (maps_twice (var 0))) true (maps_twice (var 0)) (said (ascribed (said (bound 0)) (maps_once (var 0)))))))
+    (said (fn (called_x (maps_twice (var 0))) (maps_twice (var 0))
+    (said (ascribed (said (bound 0)) (maps_once (var 0)))))))
 
 -- the body of fun g [r :: {Type}] [s :: {Type}] [r ~ s] (x : $(r ++ s)) : $r = x, with its result's type
 abbrev pub too_many_fields : Ex
@@ -175,10 +188,14 @@ abbrev pub in_body_row : Cn
 in_body_row = unit_row (body_context ∷ [])
 
 abbrev pub spliced : Ex
-spliced = said (call (said (basis Txt)) (with_added string_type (with_added in_body_row (with_added no_types (with_term (put_in (basis ShowString)) (with_term (said (text marked_up)) no_items))))))
+spliced = said (call (said (basis Txt)) Plain (with_added string_type
+    (with_added in_body_row (with_added no_types
+    (with_term (put_in (basis ShowString)) (with_term (said (text marked_up)) no_items))))))
 
 abbrev pub paragraph : Ex
-paragraph = said (element (tagged word.P None in_body_row no_types (attribute (byte 0) attr.Title (said (text marked_up)) no_attributes) (a_node spliced no_nodes)))
+paragraph = said (element (tagged word.P None in_body_row no_types
+    (attribute (byte 0) attr.Title (said (text marked_up)) no_attributes) (a_node no_types spliced no_nodes)))
 
 abbrev pub whole_body : Ex
-whole_body = said (element (tagged word.Body None in_html_row no_types no_attributes (a_node paragraph no_nodes)))
+whole_body = said (element (tagged word.Body None in_html_row no_types no_attributes
+    (a_node no_types paragraph no_nodes)))

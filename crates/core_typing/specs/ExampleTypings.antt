@@ -1,6 +1,7 @@
 -- Examples of typing and of what is at fault, worked out.
 use Rattle.std.specs.Prelude.{[], ◌∷◌, true, false}
 use Rattle.con_terms.specs.Trees.{types, row_of, Cn, var, arrow, poly, guarded, record_of, cat, name}
+use Rattle.core_terms.specs.declared.exp.Sigil.TheVariants.{Plain}
 use Rattle.core_terms.specs.Names.{option_name}
 use Rattle.core_terms.specs.Types.{int_type}
 use Rattle.core_terms.specs.Trees.{bound, call, no_items, with_guard}
@@ -11,31 +12,37 @@ use Rattle.core_terms.specs.Datatypes.{basis_datatypes}
 use Rattle.core_typing.specs.Cover.{Covers, bare_shape}
 use Rattle.core_typing.specs.Faults.{mismatch, not_disjoint, inexhaustive}
 use Rattle.core_typing.specs.Tells.{Tells}
-use Rattle.core_typing.specs.ExampleTerms.{byte, said, a_name, basis_scope, clashing, without_none, option_int, none_at_name, some_at_name, option_at_name, map_of_map, maps_twice, maps_once, too_many_fields}
+use Rattle.core_typing.specs.ExampleTerms.{byte, said, a_name, x_name, basis_scope, clashing, without_none, option_int, none_at_name, some_at_name, option_at_name, map_of_map, maps_twice, maps_once, too_many_fields}
 
 -- under r :: {Type}, s :: {Type} and [r ~ s], with one variable of this type
 abbrev pub with_two_rows : Cn → Sc
-with_two_rows t = under (t ∷ []) (under_guard (var 1) (var 0) (under_con (row_of types) (under_con (row_of types) basis_scope)))
+with_two_rows t = under (t ∷ []) (under_guard (var 1) (var 0) (under_con x_name (row_of types)
+    (under_con x_name (row_of types) basis_scope)))
 
 -- A call whose guard holds by an assumption: f ! is an int, where f : [r ~ s] => int and r ~ s is assumed.
 abbrev pub GuardHoldsByAssumption : Type 0
-GuardHoldsByAssumption = Typed cover_asked (with_two_rows (guarded (var 1) (var 0) int_type)) (said (call (said (bound 0)) (with_guard (byte 0) true no_items))) int_type
+GuardHoldsByAssumption = Typed cover_asked (with_two_rows (guarded (var 1) (var 0) int_type)) (said (call
+    (said (bound 0)) Plain (with_guard (byte 0) true no_items))) int_type
 
--- A map of a map is one map: fun f [r :: {Type}] (x : $(map (fn t => option t) (map (fn t => list t) r))) : $(map (fn t => option (list t)) r) = x.
+-- A map of a map is one map: fun f [r :: {Type}] (x : $(map (fn t => option t) (map (fn t => list t) r))) : $(map
+-- (fn t => option (list t)) r) = x.
 abbrev pub MapOfMapIsTyped : Type 0
-MapOfMapIsTyped = Typed cover_asked basis_scope map_of_map (poly false (row_of types) (arrow (maps_twice (var 0)) (maps_once (var 0))))
+MapOfMapIsTyped = Typed cover_asked basis_scope map_of_map (poly false (row_of types) (arrow (maps_twice (var 0))
+    (maps_once (var 0))))
 
 -- A record with more fields than its written type: told is mismatch wanted $ r found $ ( r ++ s ), at the body.
 abbrev pub MoreFieldsMismatch : Type 0
-MoreFieldsMismatch = Tells (with_two_rows (record_of (cat (var 1) (var 0)))) too_many_fields (mismatch (byte 65) (record_of (var 1)) (record_of (cat (var 1) (var 0))))
+MoreFieldsMismatch = Tells (with_two_rows (record_of (cat (var 1) (var 0)))) too_many_fields (mismatch (byte 65)
+    (x_name ∷ x_name ∷ []) (record_of (var 1)) (record_of (cat (var 1) (var 0))))
 
 -- Two records with one name: told is not disjoint #A #A, at the first byte of the term.
 abbrev pub SameNamesClash : Type 0
-SameNamesClash = Tells basis_scope clashing (not_disjoint (byte 8) (name a_name) (name a_name))
+SameNamesClash = Tells basis_scope clashing (not_disjoint (byte 8) [] (name a_name) (name a_name))
 
 -- A match on an option that takes Some alone: told is that None is missed, at the match.
 abbrev pub NoneIsMissed : Type 0
-NoneIsMissed = Tells (under (option_int ∷ []) basis_scope) without_none (inexhaustive (byte 31) (bare_shape option_name 0))
+NoneIsMissed = Tells (under (option_int ∷ []) basis_scope) without_none (inexhaustive (byte 31) [] (bare_shape
+    option_name 0))
 
 -- A record's field counts by its name, also where that is a variable: None and Some at it take every record.
 abbrev pub FieldsAtNamesAreCovered : Type 0

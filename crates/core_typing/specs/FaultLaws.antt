@@ -5,7 +5,7 @@ use Rattle.core_terms.specs.Names.{int_name, string_name}
 use Rattle.core_terms.specs.Trees.{Pt, Ex, Dt, Pg}
 use Rattle.core_terms.specs.Datatypes.{datatype_of}
 use Rattle.core_typing.specs.Scopes.{Sc}
-use Rattle.core_typing.specs.Faults.{Fault, unbound, kind_mismatch, mismatch, not_disjoint, inexhaustive, redeclared, link_not_call, not_serialisable, too_large}
+use Rattle.core_typing.specs.Faults.{Fault, unbound, kind_mismatch, mismatch, not_disjoint, inexhaustive, redeclared, link_not_call, not_serialisable, too_large, not_built}
 use Rattle.core_typing.specs.Tells.{Fails, Tells, ProgramTells}
 use Rattle.core_typing.specs.Accepts.{Formed}
 use Rattle.core_typing.specs.Cover.{Covers}
@@ -17,15 +17,16 @@ use Rattle.core_typing.specs.Own.{Uncovered}
 
 -- the two sides that a mismatch keeps differ
 abbrev pub SidesDiffer : Fault → Type 0
-SidesDiffer (mismatch p wanted found) = wanted ≢ found
+SidesDiffer (mismatch p xs wanted found) = wanted ≢ found
 SidesDiffer (kind_mismatch p wanted found) = wanted ≢ found
 SidesDiffer (unbound p u) = Unit {0}
-SidesDiffer (not_disjoint p c d) = Unit {0}
-SidesDiffer (inexhaustive p s) = Unit {0}
+SidesDiffer (not_disjoint p xs c d) = Unit {0}
+SidesDiffer (inexhaustive p xs s) = Unit {0}
 SidesDiffer (redeclared p t) = Unit {0}
 SidesDiffer (link_not_call p) = Unit {0}
 SidesDiffer (not_serialisable p) = Unit {0}
 SidesDiffer (too_large p) = Unit {0}
+SidesDiffer (not_built p) = Unit {0}
 
 -- no datatype has the symbol of int or string, as in each program that is built
 abbrev pub OwnSymbols : Sc → Type 0
@@ -45,11 +46,15 @@ FoundTellsNothing = (G : Sc) (e : Ex) (t : Cn) (f : Fault) → FoundBy Covers G 
 
 -- whether patterns cover, and whether links are calls with arguments that travel, is decided elsewhere
 abbrev pub CoverIsDecided : Type 0
-CoverIsDecided = (G : Sc) (p : Place) (ps : List Pt) (t : Cn) → Covers G.datatypes ps t ⊎ ((f : Fault) × Uncovered G p ps t f)
+CoverIsDecided = (G : Sc) (p : Place) (ps : List Pt) (t : Cn)
+    → Covers G.datatypes ps t ⊎ ((f : Fault) × Uncovered G p ps t f)
 
 abbrev pub LinksAreDecided : Type 0
 LinksAreDecided = (G : Sc) (n : AttrName) (e : Ex) → IsLinked G n e ⊎ (IsLinked G n e → ⊥)
 
 -- Then a term is found with cover, or it has a fault: no premise fails untold.
 abbrev pub FoundOrFails : Type 0
-FoundOrFails = CoverIsDecided → LinksAreDecided → (G : Sc) (e : Ex) → ((t : Cn) × FoundBy Covers G e t) ⊎ ((f : Fault) × Fails G e f)
+FoundOrFails = CoverIsDecided
+    → LinksAreDecided
+    → (G : Sc) (e : Ex)
+    → ((t : Cn) × FoundBy Covers G e t) ⊎ ((f : Fault) × Fails G e f)

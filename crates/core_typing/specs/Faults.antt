@@ -5,7 +5,8 @@ use Rattle.con_terms.specs.declared.place.Place.{Place}
 use Rattle.core_terms.specs.declared.markup.AttrName.{AttrName}
 use Rattle.core_typing.specs.Cover.{Shp}
 
--- what isn't bound: a variable, a top-level value or a foreign effect by its number, a constructor variable, a symbol, a constructor of a datatype, an attribute of a tag, a folder for a kind, or the name of an input's field
+-- what isn't bound: a variable, a top-level value or a foreign effect by its number, a constructor variable, a
+-- symbol, a constructor of a datatype, an attribute of a tag, a folder for a kind, or the name of an input's field
 pub data Unbound : Type 0 where
   a_variable : ℕ → Unbound
   a_value : ℕ → Unbound
@@ -23,30 +24,36 @@ pub data Twice : Type 0 where
   twice_attribute : AttrName → Twice
   twice_entry : List (List ℕ) → Twice
 
+-- A fault that keeps constructors keeps what the constructor variables in scope are called, the innermost first, so
+-- that
+-- it can be printed alone.
 pub data Fault : Type 0 where
   unbound : Place → Unbound → Fault
   -- two kinds, two normal forms that differ: what was wanted, and what was found
   kind_mismatch : Place → Kd → Kd → Fault
-  mismatch : Place → Cn → Cn → Fault
+  mismatch : Place → List ℕ → Cn → Cn → Fault
   -- two pieces that aren't separated
-  not_disjoint : Place → Cn → Cn → Fault
+  not_disjoint : Place → List ℕ → Cn → Cn → Fault
   -- a shape that no pattern takes
-  inexhaustive : Place → Shp → Fault
+  inexhaustive : Place → List ℕ → Shp → Fault
   redeclared : Place → Twice → Fault
   link_not_call : Place → Fault
   not_serialisable : Place → Fault
   too_large : Place → Fault
+  -- a form for which there are no rules yet
+  not_built : Place → Fault
 
 abbrev pub at : Fault → Place
 at (unbound p u) = p
 at (kind_mismatch p k l) = p
-at (mismatch p c d) = p
-at (not_disjoint p c d) = p
-at (inexhaustive p s) = p
+at (mismatch p xs c d) = p
+at (not_disjoint p xs c d) = p
+at (inexhaustive p xs s) = p
 at (redeclared p t) = p
 at (link_not_call p) = p
 at (not_serialisable p) = p
 at (too_large p) = p
+at (not_built p) = p
 
 -- by file, and then by byte
 abbrev pub Earlier : Place → Place → Type 0

@@ -1,10 +1,11 @@
--- What the scopes of an accepted program have: what doesn't depend on binders has its kind at the top, where nothing is bound and nothing assumed.
+-- What the scopes of an accepted program have: what doesn't depend on binders has its kind at the top, where
+-- nothing is bound and nothing assumed.
 use Rattle.std.specs.Prelude.{◌≡◌, ℕ, zero, suc, List, [], ◌∷◌, Some, slice_get}
 use Rattle.std.specs.List.{Contains}
 use Rattle.con_terms.specs.Trees.{Kd, types, row_of, to, Cn}
 use Rattle.con_terms.specs.Kinded.{Scope, basic_kind, Kinded}
 use Rattle.core_terms.specs.Names.{bool_name, option_name, list_name}
-use Rattle.core_terms.specs.Trees.{Cd, Dt}
+use Rattle.core_terms.specs.Trees.{Cd, Dt, arity}
 use Rattle.core_terms.specs.Types.{type_taking}
 use Rattle.core_terms.specs.Datatypes.{datatype_of}
 use Rattle.core_typing.specs.Scopes.{Sc, basis_kinds}
@@ -22,10 +23,18 @@ pub record Grounded (G : Sc) : Type 0 where
   -- each top-level value has a type
   pub tops : (i : ℕ) (t : Cn) → slice_get G.tops i ≡ Some t → Kinded (at_top 0 G.kinds.basics) t types
   -- what a constructor of a datatype holds is a type, under the datatype's parameters
-  pub held : (s j : ℕ) (d : Dt) (c : Cd) (h : Cn) → datatype_of G.datatypes s ≡ Some d → slice_get d.constructors j ≡ Some c → c.holds ≡ Some h → Kinded (at_top d.parameters G.kinds.basics) h types
+  pub held : (s j : ℕ) (d : Dt) (c : Cd) (h : Cn)
+      → datatype_of G.datatypes s ≡ Some d
+      → slice_get d.constructors j ≡ Some c
+      → c.holds ≡ Some h
+      → Kinded (at_top (arity d) G.kinds.basics) h types
   -- datatypes, folders and the types of the basis have their kinds
-  pub datatypes : (s : ℕ) (d : Dt) → datatype_of G.datatypes s ≡ Some d → basic_kind G.kinds.basics s ≡ Some (type_taking d.parameters)
-  pub folders : (k : Kd) (s : ℕ) → Contains G.folders (k, s) → basic_kind G.kinds.basics s ≡ Some (to (row_of k) types)
+  pub datatypes : (s : ℕ) (d : Dt)
+      → datatype_of G.datatypes s ≡ Some d
+      → basic_kind G.kinds.basics s ≡ Some (type_taking (arity d))
+  pub folders : (k : Kd) (s : ℕ)
+      → Contains G.folders (k, s)
+      → basic_kind G.kinds.basics s ≡ Some (to (row_of k) types)
   pub basis : (b : ℕ × Kd) → Contains basis_kinds b → basic_kind G.kinds.basics b.0 ≡ Some b.1
   pub bools : basic_kind G.kinds.basics bool_name ≡ Some types
   pub options : basic_kind G.kinds.basics option_name ≡ Some (to types types)

@@ -1,4 +1,5 @@
--- Laws of kinds: what stays when constructors are seen from under further binders and guards, and when a constructor is put for a binder.
+-- Laws of kinds: what stays when constructors are seen from under further binders and guards, and when a
+-- constructor is put for a binder.
 use Rattle.std.specs.Prelude.{◌≡◌, ℕ, List, ◌∷◌, ◌++◌, Some, length, map}
 use Rattle.std.specs.List.{Contains}
 use Rattle.con_terms.specs.Trees.{Kd, types, Cn}
@@ -26,7 +27,11 @@ guards_with a n gs = map (λ (g : Cn × Cn). (subst_at a g.0 n, subst_at a g.1 n
 abbrev pub KindsStayUnderBinders : Type 0
 KindsStayUnderBinders = (inner outer new : List Kd) (gs : Guards) (basics : List (ℕ × Kd)) (c : Cn) (k : Kd)
     → Kinded (record { binders = inner ++ outer; guards = gs; basics = basics }) c k
-    → Kinded (record { binders = inner ++ new ++ outer; guards = guards_shifted (length new) (length inner) gs; basics = basics }) (shift (length new) c (length inner)) k
+    → Kinded (record {
+      binders = inner ++ new ++ outer;
+      guards = guards_shifted (length new) (length inner) gs;
+      basics = basics;
+    }) (shift (length new) c (length inner)) k
 
 -- a scope with the same binders and basic names, and at least the guards
 pub record Widens (G H : Scope) : Type 0 where
@@ -44,13 +49,18 @@ KindsStayUnderGuards = (binders : List Kd) (gs hs : Guards) (basics : List (ℕ 
 -- A constructor may be put for a binder of its kind, anywhere among those that are there.
 abbrev pub ConstructorsSubstitute : Type 0
 ConstructorsSubstitute = (inner outer : List Kd) (l : Kd) (gs : Guards) (basics : List (ℕ × Kd)) (a c : Cn) (k : Kd)
-    → Kinded (record { binders = inner ++ outer; guards = guards_with a (length inner) gs; basics = basics }) (shift (length inner) a 0) l
+    → Kinded (record { binders = inner ++ outer; guards = guards_with a (length inner) gs; basics = basics }) (shift
+    (length inner) a 0) l
     → Kinded (record { binders = inner ++ l ∷ outer; guards = gs; basics = basics }) c k
-    → Kinded (record { binders = inner ++ outer; guards = guards_with a (length inner) gs; basics = basics }) (subst_at a c (length inner)) k
+    → Kinded (record { binders = inner ++ outer; guards = guards_with a (length inner) gs; basics = basics })
+    (subst_at a c (length inner)) k
 
 -- So one may be put for the innermost binder.
 abbrev pub KindsSubstitute : Type 0
-KindsSubstitute = (G : Scope) (l : Kd) (a c : Cn) (k : Kd) → Kinded G a l → Kinded (bind l G) c k → Kinded G (subst c a) k
+KindsSubstitute = (G : Scope) (l : Kd) (a c : Cn) (k : Kd)
+    → Kinded G a l
+    → Kinded (bind l G) c k
+    → Kinded G (subst c a) k
 
 -- The values of the basis have types, and the types of the basis have their kinds, in every scope of an accepted program.
 abbrev pub BasisHasKinds : Type 0
@@ -65,8 +75,13 @@ StepsKeepKinds = (G : Scope) (c d : Cn) (k : Kd) → Kinded G c k → step c ≡
 abbrev pub EtaKeepsKinds : Type 0
 EtaKeepsKinds = (G : Scope) (c : Cn) (k : Kd) → Kinded G c k → Kinded G (contracted c) k
 
--- So what steps leave at last, without eta redexes, has the kind: a normal form before the pieces of its rows are put in order.
--- Of putting them in order this isn't claimed. What a ++ (b ++ c) has is that a is apart from b ++ c, or from a row equal to it;
+-- So what steps leave at last, without eta redexes, has the kind: a normal form before the pieces of its rows are
+-- put in order.
+-- Of putting them in order this isn't claimed. What a ++ (b ++ c) has is that a is apart from b ++ c, or from a row
+-- equal to it;
 -- that a is then apart from b would ask that equal rows have equal pieces, which isn't proved.
 abbrev pub ReducedKeepsKinds : Type 0
-ReducedKeepsKinds = (G : Scope) (c d : Cn) (k : Kd) (room left now : ℕ) → Kinded G c k → reduced room left c ≡ Some (d, now) → Kinded G (contracted d) k
+ReducedKeepsKinds = (G : Scope) (c d : Cn) (k : Kd) (room left now : ℕ)
+    → Kinded G c k
+    → reduced room left c ≡ Some (d, now)
+    → Kinded G (contracted d) k

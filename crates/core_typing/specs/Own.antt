@@ -1,27 +1,62 @@
--- What is at fault in a node itself: one premise of its rule fails. A fault stands where the part stands that breaks the premise, and so at the node where the premise is about all of it.
--- | form          | premise                                       | the parts that it speaks of          | stands at
--- | variable, ..  | it is bound                                   | none                                 | the node
--- | fn            | kind of the type; the pattern; its cover      | none; the pattern; the pattern       | the node; in the pattern; the node
--- | guard's fn    | kinds of both rows, their normal forms        | none                                 | the node
--- | call          | each item fits what the items before it leave | the function, the items up to it     | the function, where it takes no such item; the term; the item
--- | let, val rec  | kind of a type; a term has its type           | none; the term                       | the declaration, or the term where the type isn't written; the term
--- | case          | each pattern; the types of branches; cover    | what is matched; with two branches; with all patterns | in the pattern; the later branch's body; the node
--- | (e : t)       | kind of the type; the term has it             | none; the term                       | the node; the term
--- | record        | kinds of names; names differ                  | none; the fields                     | the field; the node
--- | e.c, --, ---  | e is a record; kind of c; it has the field    | e; none; e                           | e; the node; the node
--- | ++            | both are records; their rows are apart        | either; both                         | that part; the node
--- | folder        | its kind has a folder; the row's kind         | none                                 | the node
--- | element       | where it stands; its attributes; its nodes    | none; the attribute's term; the nodes up to it, or it and those behind it | the node; the attribute's term; the node in it
-use Rattle.std.specs.Prelude.{◌≡◌, ◌≢◌, ℕ, ◌<◌, ◌⊎◌, Bool, true, false, List, [], ◌∷◌, Option, Some, None, Err, slice_get}
-use Rattle.con_terms.specs.Trees.{Kd, types, units, names, row_of, Cn, arrow, poly, guarded, record_of, unit_con, row, cat, Prs, no_pairs}
+-- What is at fault in a node itself: one premise of its rule fails. A fault stands where the part stands that
+-- breaks the premise, and so at the node where the premise is about all of it.
+-- form: the premises; of each, the parts that it speaks of, and where it stands
+-- variable, ..
+--   it is bound: of none; at the node
+-- fn
+--   kind of the type: of none; at the node
+--   the pattern: of the pattern; at in the pattern
+--   its cover: of the pattern; at the node
+-- guard's fn
+--   kinds of both rows, their normal forms: of none; at the node
+-- call
+--   each item fits what the items before it leave: of the function, the items up to it; at the function, where it
+-- takes no such item; the term; the item
+-- let, val rec
+--   kind of a type: of none; at the declaration, or the term where the type isn't written
+--   a term has its type: of the term; at the term
+-- case
+--   each pattern: of what is matched; at in the pattern
+--   the types of branches: of with two branches; at the later branch's body
+--   cover: of with all patterns; at the node
+-- (e : t)
+--   kind of the type: of none; at the node
+--   the term has it: of the term; at the term
+-- record
+--   kinds of names: of none; at the field
+--   names differ: of the fields; at the node
+-- e.c, --, ---
+--   e is a record: of e; at e
+--   kind of c: of none; at the node
+--   it has the field: of e; at the node
+-- ++
+--   both are records: of either; at that part
+--   their rows are apart: of both; at the node
+-- folder
+--   its kind has a folder: of none; at the node
+--   the row's kind: of none; at the node
+-- element
+--   where it stands: of none; at the node
+--   its attributes: of the attribute's term; at the attribute's term
+--   its nodes: of the node, or those behind it; at the node in it
+-- literal
+--   the kinds of its rows: of none; at the node
+--   its nodes: of the node, or those behind it; at the node in it
+-- SQL
+--   there is a rule for it: of none; at the node
+use Rattle.std.specs.Prelude.{◌≡◌, ℕ, ◌<◌, Bool, true, false, List, [], ◌∷◌, Option, Some, None, Err, slice_get}
+use Rattle.con_terms.specs.Trees.{Kd, types, units, names, row_of, Cn, basic, arrow, poly, guarded, record_of, unit_con, row, cat, Prs, no_pairs}
 use Rattle.con_terms.specs.Substitution.{subst}
 use Rattle.con_terms.specs.declared.place.Place.{Place}
 use Rattle.kind_rules.specs.Flaws.{Flw}
 use Rattle.row_normal.specs.Ordered.{ordered, ordered_pieces}
+use Rattle.core_terms.specs.declared.exp.Sigil.{Sigil}
+use Rattle.core_terms.specs.declared.exp.ConOrigin.{ConOrigin}
+use Rattle.core_terms.specs.declared.exp.ConOrigin.TheVariants.{Written, Inserted, Wild}
 use Rattle.core_terms.specs.declared.markup.TagName.{TagName}
 use Rattle.core_terms.specs.declared.markup.AttrName.{AttrName}
 use Rattle.core_terms.specs.declared.markup.AttrName.TheVariants as attr
-use Rattle.core_terms.specs.Trees.{Pt, Ex, node, bound, top, foreign, fold_over, built, fn, fn_guard, call, let_in, case_of, ascribed, fields_of, select, concat, without, without_row, folder, element, Its, with_term, with_con, with_guard, Nms, named, Los, local_val, local_rec, Brs, branch, Fds, field, El, tagged, Ats, attribute, Xs, a_node, Cd, Dt}
+use Rattle.core_terms.specs.Trees.{Pt, Ex, node, bound, top, foreign, fold_over, built, fn, fn_guard, call, let_in, case_of, ascribed, fields_of, select, concat, without, without_row, folder, element, literal, sql, Its, with_term, with_con, with_guard, Nms, named, Los, local_val, local_rec, Brs, branch, Fds, field, El, tagged, Ats, attribute, Xs, a_node, Exs, Sk, Cd, Dt}
 use Rattle.core_terms.specs.Types.{string_type, unit_type, type_row, no_types, one_field, xml_of}
 use Rattle.core_terms.specs.Datatypes.{datatype_of}
 use Rattle.core_typing.specs.Scopes.{folder_of, Sc, under, normal_of}
@@ -33,7 +68,7 @@ use Rattle.core_typing.specs.Compared.{Alike, Differ, Large, Disjoint, Touch, Re
 use Rattle.core_typing.specs.PatternFaults.{PatFound, PatFault}
 use Rattle.core_typing.specs.Asks.{no_cover}
 use Rattle.core_typing.specs.Found.{Found, FieldsFound, NodesFound}
-use Rattle.core_typing.specs.Faults.{Fault, unbound, a_variable, a_value, an_effect, a_constructor, an_attribute, a_folder, an_input_name, mismatch, not_disjoint, inexhaustive, redeclared, twice_attribute, link_not_call, not_serialisable, too_large}
+use Rattle.core_typing.specs.Faults.{Fault, unbound, a_variable, a_value, an_effect, a_constructor, an_attribute, a_folder, an_input_name, mismatch, not_disjoint, inexhaustive, redeclared, twice_attribute, link_not_call, not_serialisable, too_large, not_built}
 
 -- where a term stands
 abbrev pub place_of : Ex → Place
@@ -57,15 +92,30 @@ any_guarded = guarded (row units no_pairs) (row units no_pairs) unit_con
 abbrev pub any_record : Cn
 any_record = record_of no_types
 
+-- an inserted constructor is there for a parameter that is implicit
+abbrev pub is_implicit : ConOrigin → Bool
+is_implicit Written = false
+is_implicit Wild = false
+is_implicit Inserted = true
+
 -- a term's type isn't the wanted one, or the comparison is too large
-pub data Wants : Place → Cn → Cn → Fault → Type 0 where
-  other : {p : Place} {t u m n : Cn} → Differ t u m n → Wants p t u (mismatch p m n)
-  large : {p : Place} {t u : Cn} → Large t u → Wants p t u (too_large p)
+pub data Wants : Sc → Place → Cn → Cn → Fault → Type 0 where
+  other : {G : Sc} {p : Place} {t u m n : Cn}
+      → Differ t u m n
+      → Wants G p t u (mismatch p G.called m n)
+  large : {G : Sc} {p : Place} {t u : Cn}
+      → Large t u
+      → Wants G p t u (too_large p)
 
 -- a type isn't of a form, which stands as `wanted`, or it is too large
-pub data NotOf (F : Cn → Type 0) : Place → Cn → Cn → Fault → Type 0 where
-  other_form : {p : Place} {wanted t n : Cn} → normal_of t ≡ Some n → (F n → ⊥) → NotOf F p wanted t (mismatch p wanted n)
-  large_form : {p : Place} {wanted t : Cn} → normal_of t ≡ None → NotOf F p wanted t (too_large p)
+pub data NotOf (F : Cn → Type 0) : Sc → Place → Cn → Cn → Fault → Type 0 where
+  other_form : {G : Sc} {p : Place} {wanted t n : Cn}
+      → normal_of t ≡ Some n
+      → (F n → ⊥)
+      → NotOf F G p wanted t (mismatch p G.called wanted n)
+  large_form : {G : Sc} {p : Place} {wanted t : Cn}
+      → normal_of t ≡ None
+      → NotOf F G p wanted t (too_large p)
 
 abbrev pub IsFunction : Cn → Type 0
 IsFunction n = (t : Cn) × (u : Cn) × (n ≡ arrow t u)
@@ -79,111 +129,284 @@ IsGuarded n = (c : Cn) × (d : Cn) × (t : Cn) × (n ≡ guarded c d t)
 abbrev pub IsRecord : Cn → Type 0
 IsRecord n = (r : Cn) × (n ≡ record_of r)
 
-abbrev pub IsTree : Cn → Type 0
-IsTree n = (c : Cn) × (u : Cn) × (b : Cn) × (n ≡ xml_of c u b)
-
--- what is told as wanted where nothing may stand: (), or {} where () is found
+-- What is told where nothing may stand. In a void tag, wanted is () and found the type of the first node in it;
+-- where that
+-- itself is (), wanted is {}. In a title, wanted is string and found the type of the first node that isn't words;
+-- where that is
+-- a basic type, wanted is {}. At a name on another tag than an input's, wanted is the row without fields and found
+-- the row of that name alone, with the value ().
 abbrev pub nothing_like : Cn → Cn
 nothing_like unit_con = unit_type
 nothing_like _ = unit_con
 
+abbrev pub words_like : Cn → Cn
+words_like (basic s) = unit_type
+words_like _ = string_type
+
 -- a node of a type stands where nothing may
-pub data NotHeld : Place → Cn → Fault → Type 0 where
-  held_there : {p : Place} {t n : Cn} → normal_of t ≡ Some n → NotHeld p t (mismatch p (nothing_like n) n)
-  large_there : {p : Place} {t : Cn} → normal_of t ≡ None → NotHeld p t (too_large p)
+pub data NotHeld : Sc → Place → Cn → Fault → Type 0 where
+  held_there : {G : Sc} {p : Place} {t n : Cn}
+      → normal_of t ≡ Some n
+      → NotHeld G p t (mismatch p G.called (nothing_like n) n)
+  large_there : {G : Sc} {p : Place} {t : Cn}
+      → normal_of t ≡ None
+      → NotHeld G p t (too_large p)
 
 -- two rows aren't apart, or are too large
 pub data Meets : Sc → Place → Cn → Cn → Fault → Type 0 where
-  they_touch : {G : Sc} {p : Place} {a b c d : Cn} → Touch G.kinds.guards a b c d → Meets G p a b (not_disjoint p c d)
-  they_are_large : {G : Sc} {p : Place} {a b : Cn} → Large a b → Meets G p a b (too_large p)
+  they_touch : {G : Sc} {p : Place} {a b c d : Cn}
+      → Touch G.kinds.guards a b c d
+      → Meets G p a b (not_disjoint p G.called c d)
+  they_are_large : {G : Sc} {p : Place} {a b : Cn}
+      → Large a b
+      → Meets G p a b (too_large p)
 
 -- patterns miss a shape, or a type of a part is too large
 pub data Uncovered : Sc → Place → List Pt → Cn → Fault → Type 0 where
-  misses : {G : Sc} {p : Place} {ps : List Pt} {t : Cn} {s : Shp} → (TooLargeIn G.datatypes (levels ps) t → ⊥) → Misses G.datatypes ps t s → Uncovered G p ps t (inexhaustive p s)
-  large_part : {G : Sc} {p : Place} {ps : List Pt} {t : Cn} → TooLargeIn G.datatypes (levels ps) t → Uncovered G p ps t (too_large p)
+  misses : {G : Sc} {p : Place} {ps : List Pt} {t : Cn} {s : Shp}
+      → (TooLargeIn G.datatypes (levels ps) t → ⊥)
+      → Misses G.datatypes ps t s
+      → Uncovered G p ps t (inexhaustive p G.called s)
+  large_part : {G : Sc} {p : Place} {ps : List Pt} {t : Cn}
+      → TooLargeIn G.datatypes (levels ps) t
+      → Uncovered G p ps t (too_large p)
 
 -- a top-level value, or a call of one
 pub data CallsTop : Ex → Type 0 where
   top_alone : {p : Place} {a : Bool} {i : ℕ} → CallsTop (node p a (top i))
-  top_called : {p q : Place} {a b : Bool} {i : ℕ} {is : Its} → CallsTop (node p a (call (node q b (top i)) is))
+  top_called : {p q : Place} {a b : Bool} {i : ℕ} {s : Sigil} {is : Its}
+      → CallsTop (node p a (call (node q b (top i)) s is))
 
--- what a link or an action of a type breaks: it isn't such a call; it has another type, since a link lacks arguments, or an action lacks more than the form or has it already; or it has its type, and constructors, guards or types stand in the way of carrying the arguments
+-- what a link or an action of a type breaks: it isn't such a call; it has another type, since a link lacks
+-- arguments, or an action lacks more than the form or has it already; or it has its type, and constructors, guards
+-- or types stand in the way of carrying the arguments
 pub data NotLinked : Sc → Place → AttrName → Cn → Ex → Fault → Type 0 where
-  link_calls_none : {G : Sc} {p : Place} {t : Cn} {e : Ex} → (CallsTop e → ⊥) → NotLinked G p attr.Link t e (link_not_call p)
-  action_calls_none : {G : Sc} {p : Place} {t : Cn} {e : Ex} → (CallsTop e → ⊥) → NotLinked G p attr.Action t e (link_not_call p)
-  link_lacks : {G : Sc} {p : Place} {t v a b : Cn} {e : Ex} → CallsTop e → Found G e v → (Alike t v → ⊥) → normal_of v ≡ Some (arrow a b) → NotLinked G p attr.Link t e (link_not_call p)
-  action_has_all : {G : Sc} {p : Place} {t v n : Cn} {e : Ex} → CallsTop e → Found G e v → (Alike t v → ⊥) → normal_of v ≡ Some n → (IsFunction n → ⊥) → NotLinked G p attr.Action t e (link_not_call p)
-  action_lacks : {G : Sc} {p : Place} {t v a b c d : Cn} {e : Ex} → CallsTop e → Found G e v → (Alike t v → ⊥) → normal_of v ≡ Some (arrow a b) → normal_of b ≡ Some (arrow c d) → NotLinked G p attr.Action t e (link_not_call p)
-  not_carried : {G : Sc} {p : Place} {n : AttrName} {t v : Cn} {e : Ex} → CallsTop e → Found G e v → Alike t v → (IsLinked G n e → ⊥) → NotLinked G p n t e (not_serialisable p)
+  link_calls_none : {G : Sc} {p : Place} {t : Cn} {e : Ex}
+      → (CallsTop e → ⊥)
+      → NotLinked G p attr.Link t e (link_not_call p)
+  action_calls_none : {G : Sc} {p : Place} {t : Cn} {e : Ex}
+      → (CallsTop e → ⊥)
+      → NotLinked G p attr.Action t e (link_not_call p)
+  link_lacks : {G : Sc} {p : Place} {t v a b : Cn} {e : Ex}
+      → CallsTop e
+      → Found G e v
+      → (Alike t v → ⊥)
+      → normal_of v ≡ Some (arrow a b)
+      → NotLinked G p attr.Link t e (link_not_call p)
+  action_has_all : {G : Sc} {p : Place} {t v n : Cn} {e : Ex}
+      → CallsTop e
+      → Found G e v
+      → (Alike t v → ⊥)
+      → normal_of v ≡ Some n
+      → (IsFunction n → ⊥)
+      → NotLinked G p attr.Action t e (link_not_call p)
+  action_lacks : {G : Sc} {p : Place} {t v a b c d : Cn} {e : Ex}
+      → CallsTop e
+      → Found G e v
+      → (Alike t v → ⊥)
+      → normal_of v ≡ Some (arrow a b)
+      → normal_of b ≡ Some (arrow c d)
+      → NotLinked G p attr.Action t e (link_not_call p)
+  not_carried : {G : Sc} {p : Place} {n : AttrName} {t v : Cn} {e : Ex}
+      → CallsTop e
+      → Found G e v
+      → Alike t v
+      → (IsLinked G n e → ⊥)
+      → NotLinked G p n t e (not_serialisable p)
 
 -- an item doesn't fit, where those before it do; `at` is where the function stands
 pub data ItemFault : Sc → Place → Cn → Its → Fault → Type 0 where
-  no_function : {G : Sc} {at : Place} {t : Cn} {e : Ex} {is : Its} {f : Fault} → NotOf IsFunction at any_function t f → ItemFault G at t (with_term e is) f
-  argument : {G : Sc} {at : Place} {t u d c : Cn} {e : Ex} {is : Its} {f : Fault} → normal_of t ≡ Some (arrow u d) → Found G e c → Wants (place_of e) u c f → ItemFault G at t (with_term e is) f
-  after_term : {G : Sc} {at : Place} {t u d c : Cn} {e : Ex} {is : Its} {f : Fault} → normal_of t ≡ Some (arrow u d) → Found G e c → Alike u c → ItemFault G at d is f → ItemFault G at t (with_term e is) f
-  no_poly : {G : Sc} {at p : Place} {a : Bool} {t c : Cn} {is : Its} {f : Fault} → NotOf IsPoly at (any_poly a) t f → ItemFault G at t (with_con p a c is) f
-  constructor_kind : {G : Sc} {at p : Place} {a i : Bool} {k : Kd} {t d c : Cn} {is : Its} {f : Fault} → normal_of t ≡ Some (poly i k d) → LacksKind G p c k f → ItemFault G at t (with_con p a c is) f
-  after_con : {G : Sc} {at p : Place} {a i : Bool} {k : Kd} {t d c : Cn} {is : Its} {f : Fault} → normal_of t ≡ Some (poly i k d) → HasKind G c k → ItemFault G at (subst d c) is f → ItemFault G at t (with_con p a c is) f
-  no_guard : {G : Sc} {at p : Place} {a : Bool} {t : Cn} {is : Its} {f : Fault} → NotOf IsGuarded at any_guarded t f → ItemFault G at t (with_guard p a is) f
-  guard_fails : {G : Sc} {at p : Place} {a : Bool} {t c d b : Cn} {is : Its} {f : Fault} → normal_of t ≡ Some (guarded c d b) → Meets G p c d f → ItemFault G at t (with_guard p a is) f
-  after_guard : {G : Sc} {at p : Place} {a : Bool} {t c d b : Cn} {is : Its} {f : Fault} → normal_of t ≡ Some (guarded c d b) → Disjoint G.kinds.guards c d → ItemFault G at b is f → ItemFault G at t (with_guard p a is) f
+  -- f e, where f is no function
+  no_function : {G : Sc} {at : Place} {t : Cn} {e : Ex} {is : Its} {f : Fault}
+      → NotOf IsFunction G at any_function t f
+      → ItemFault G at t (with_term e is) f
+  -- f e
+  argument : {G : Sc} {at : Place} {t u d c : Cn} {e : Ex} {is : Its} {f : Fault}
+      → normal_of t ≡ Some (arrow u d)
+      → Found G e c
+      → Wants G (place_of e) u c f
+      → ItemFault G at t (with_term e is) f
+  -- f e ..
+  after_term : {G : Sc} {at : Place} {t u d c : Cn} {e : Ex} {is : Its} {f : Fault}
+      → normal_of t ≡ Some (arrow u d)
+      → Found G e c
+      → Alike u c
+      → ItemFault G at d is f
+      → ItemFault G at t (with_term e is) f
+  -- f [c], where f takes no constructor
+  no_poly : {G : Sc} {at p : Place} {o : ConOrigin} {t c : Cn} {is : Its} {f : Fault}
+      → NotOf IsPoly G at (any_poly (is_implicit o)) t f
+      → ItemFault G at t (with_con p o c is) f
+  -- f [c]
+  constructor_kind : {G : Sc} {at p : Place} {o : ConOrigin} {i : Bool} {k : Kd} {t d c : Cn} {is : Its} {f : Fault}
+      → normal_of t ≡ Some (poly i k d)
+      → LacksKind G p c k f
+      → ItemFault G at t (with_con p o c is) f
+  -- f [c] ..
+  after_con : {G : Sc} {at p : Place} {o : ConOrigin} {i : Bool} {k : Kd} {t d c : Cn} {is : Its} {f : Fault}
+      → normal_of t ≡ Some (poly i k d)
+      → HasKind G c k
+      → ItemFault G at (subst d c) is f
+      → ItemFault G at t (with_con p o c is) f
+  -- f !, where f takes no proof
+  no_guard : {G : Sc} {at p : Place} {a : Bool} {t : Cn} {is : Its} {f : Fault}
+      → NotOf IsGuarded G at any_guarded t f
+      → ItemFault G at t (with_guard p a is) f
+  -- f !
+  guard_fails : {G : Sc} {at p : Place} {a : Bool} {t c d b : Cn} {is : Its} {f : Fault}
+      → normal_of t ≡ Some (guarded c d b)
+      → Meets G p c d f
+      → ItemFault G at t (with_guard p a is) f
+  -- f ! ..
+  after_guard : {G : Sc} {at p : Place} {a : Bool} {t c d b : Cn} {is : Its} {f : Fault}
+      → normal_of t ≡ Some (guarded c d b)
+      → Disjoint G.kinds.guards c d
+      → ItemFault G at b is f
+      → ItemFault G at t (with_guard p a is) f
 
 -- names that are declared together, in the scope of all of them
 pub data NamedFault : Sc → Sc → Nms → Fault → Type 0 where
-  name_kind : {G H : Sc} {p : Place} {x : ℕ} {w : Bool} {t : Cn} {e : Ex} {ns : Nms} {f : Fault} → LacksKind G (type_place w p e) t types f → NamedFault G H (named p x w t e ns) f
-  name_type : {G H : Sc} {p : Place} {x : ℕ} {w : Bool} {t u : Cn} {e : Ex} {ns : Nms} {f : Fault} → HasKind G t types → Found H e u → Wants (place_of e) t u f → NamedFault G H (named p x w t e ns) f
-  later_name : {G H : Sc} {p : Place} {x : ℕ} {w : Bool} {t : Cn} {e : Ex} {ns : Nms} {f : Fault} → NamedFault G H ns f → NamedFault G H (named p x w t e ns) f
+  -- x : t = e
+  name_kind : {G H : Sc} {p : Place} {x : ℕ} {w : Bool} {t : Cn} {e : Ex} {ns : Nms} {f : Fault}
+      → LacksKind G (type_place w p e) t types f
+      → NamedFault G H (named p x w t e ns) f
+  -- x : t = e
+  name_type : {G H : Sc} {p : Place} {x : ℕ} {w : Bool} {t u : Cn} {e : Ex} {ns : Nms} {f : Fault}
+      → HasKind G t types
+      → Found H e u
+      → Wants G (place_of e) t u f
+      → NamedFault G H (named p x w t e ns) f
+  later_name : {G H : Sc} {p : Place} {x : ℕ} {w : Bool} {t : Cn} {e : Ex} {ns : Nms} {f : Fault}
+      → NamedFault G H ns f
+      → NamedFault G H (named p x w t e ns) f
 
 pub data LocalFault : Sc → Los → Fault → Type 0 where
-  val_kind : {G : Sc} {p : Place} {x : ℕ} {w : Bool} {t : Cn} {e : Ex} {ls : Los} {f : Fault} → LacksKind G (type_place w p e) t types f → LocalFault G (local_val p x w t e ls) f
-  val_type : {G : Sc} {p : Place} {x : ℕ} {w : Bool} {t u : Cn} {e : Ex} {ls : Los} {f : Fault} → HasKind G t types → Found G e u → Wants (place_of e) t u f → LocalFault G (local_val p x w t e ls) f
-  after_val : {G : Sc} {p : Place} {x : ℕ} {w : Bool} {t : Cn} {e : Ex} {ls : Los} {f : Fault} → LocalFault (under (t ∷ []) G) ls f → LocalFault G (local_val p x w t e ls) f
-  in_rec : {G : Sc} {ns : Nms} {ls : Los} {f : Fault} → NamedFault G (under (named_types ns) G) ns f → LocalFault G (local_rec ns ls) f
-  after_rec : {G : Sc} {ns : Nms} {ls : Los} {f : Fault} → LocalFault (under (named_types ns) G) ls f → LocalFault G (local_rec ns ls) f
+  -- val x : t = e
+  val_kind : {G : Sc} {p : Place} {x : ℕ} {w : Bool} {t : Cn} {e : Ex} {ls : Los} {f : Fault}
+      → LacksKind G (type_place w p e) t types f
+      → LocalFault G (local_val p x w t e ls) f
+  -- val x : t = e
+  val_type : {G : Sc} {p : Place} {x : ℕ} {w : Bool} {t u : Cn} {e : Ex} {ls : Los} {f : Fault}
+      → HasKind G t types
+      → Found G e u
+      → Wants G (place_of e) t u f
+      → LocalFault G (local_val p x w t e ls) f
+  after_val : {G : Sc} {p : Place} {x : ℕ} {w : Bool} {t : Cn} {e : Ex} {ls : Los} {f : Fault}
+      → LocalFault (under (t ∷ []) G) ls f
+      → LocalFault G (local_val p x w t e ls) f
+  -- val rec ..
+  in_rec : {G : Sc} {ns : Nms} {ls : Los} {f : Fault}
+      → NamedFault G (under (named_types ns) G) ns f
+      → LocalFault G (local_rec ns ls) f
+  after_rec : {G : Sc} {ns : Nms} {ls : Los} {f : Fault}
+      → LocalFault (under (named_types ns) G) ls f
+      → LocalFault G (local_rec ns ls) f
 
 -- a later branch: its pattern, or its type against that of the first, where that is found
 pub data BranchFault : Sc → Cn → Brs → Fault → Type 0 where
-  branch_pattern : {G : Sc} {t : Cn} {p : Place} {q : Pt} {e : Ex} {bs : Brs} {f : Fault} → PatFault G q t f → BranchFault G t (branch p q e bs) f
-  later_pattern : {G : Sc} {t : Cn} {p : Place} {q : Pt} {e : Ex} {bs : Brs} {f : Fault} → BranchFault G t bs f → BranchFault G t (branch p q e bs) f
+  -- | p => e
+  branch_pattern : {G : Sc} {t : Cn} {p : Place} {q : Pt} {e : Ex} {bs : Brs} {f : Fault}
+      → PatFault G q t f
+      → BranchFault G t (branch p q e bs) f
+  later_pattern : {G : Sc} {t : Cn} {p : Place} {q : Pt} {e : Ex} {bs : Brs} {f : Fault}
+      → BranchFault G t bs f
+      → BranchFault G t (branch p q e bs) f
 
 pub data BranchDiffers : Sc → Cn → Cn → Brs → Fault → Type 0 where
-  this_differs : {G : Sc} {t u v : Cn} {p : Place} {q : Pt} {e : Ex} {bs : Brs} {ts : List Cn} {f : Fault} → PatFound G q t ts → Found (under ts G) e v → Wants (place_of e) u v f → BranchDiffers G t u (branch p q e bs) f
-  later_differs : {G : Sc} {t u : Cn} {p : Place} {q : Pt} {e : Ex} {bs : Brs} {f : Fault} → BranchDiffers G t u bs f → BranchDiffers G t u (branch p q e bs) f
+  -- | p => e
+  this_differs : {G : Sc} {t u v : Cn} {p : Place} {q : Pt} {e : Ex} {bs : Brs} {ts : List Cn} {f : Fault}
+      → PatFound G q t ts
+      → Found (under ts G) e v
+      → Wants G (place_of e) u v f
+      → BranchDiffers G t u (branch p q e bs) f
+  later_differs : {G : Sc} {t u : Cn} {p : Place} {q : Pt} {e : Ex} {bs : Brs} {f : Fault}
+      → BranchDiffers G t u bs f
+      → BranchDiffers G t u (branch p q e bs) f
 
 pub data FieldFault : Sc → Fds → Fault → Type 0 where
-  field_kind : {G : Sc} {p : Place} {n : Cn} {e : Ex} {fs : Fds} {f : Fault} → LacksKind G p n names f → FieldFault G (field p n e fs) f
-  later_field : {G : Sc} {p : Place} {n : Cn} {e : Ex} {fs : Fds} {f : Fault} → FieldFault G fs f → FieldFault G (field p n e fs) f
+  -- n = e
+  field_kind : {G : Sc} {p : Place} {n : Cn} {e : Ex} {fs : Fds} {f : Fault}
+      → LacksKind G p n names f
+      → FieldFault G (field p n e fs) f
+  later_field : {G : Sc} {p : Place} {n : Cn} {e : Ex} {fs : Fds} {f : Fault}
+      → FieldFault G fs f
+      → FieldFault G (field p n e fs) f
 
 -- an attribute: not one of the tag's, of another type, no call where it is a link or an action, or there before
 pub data AttributeFault : Sc → Cn → TagName → Ats → Fault → Type 0 where
-  no_attribute : {G : Sc} {u : Cn} {g : TagName} {p : Place} {n : AttrName} {e : Ex} {as' : Ats} → attribute_type u g n ≡ None → AttributeFault G u g (attribute p n e as') (unbound p (an_attribute n))
-  attribute_differs : {G : Sc} {u t v : Cn} {g : TagName} {p : Place} {n : AttrName} {e : Ex} {as' : Ats} {f : Fault} → attribute_type u g n ≡ Some t → Found G e v → Wants (place_of e) t v f → AttributeFault G u g (attribute p n e as') f
-  not_linked : {G : Sc} {u t : Cn} {g : TagName} {p : Place} {n : AttrName} {e : Ex} {as' : Ats} {f : Fault} → attribute_type u g n ≡ Some t → NotLinked G p n t e f → AttributeFault G u g (attribute p n e as') f
-  later_attribute : {G : Sc} {u : Cn} {g : TagName} {p : Place} {n : AttrName} {e : Ex} {as' : Ats} {f : Fault} → AttributeFault G u g as' f → AttributeFault G u g (attribute p n e as') f
+  no_attribute : {G : Sc} {u : Cn} {g : TagName} {p : Place} {n : AttrName} {e : Ex} {as' : Ats}
+      → attribute_type u g n ≡ None
+      → AttributeFault G u g (attribute p n e as') (unbound p (an_attribute n))
+  attribute_differs : {G : Sc} {u t v : Cn} {g : TagName} {p : Place} {n : AttrName} {e : Ex} {as' : Ats}
+      {f : Fault}
+      → attribute_type u g n ≡ Some t
+      → Found G e v
+      → Wants G (place_of e) t v f
+      → AttributeFault G u g (attribute p n e as') f
+  not_linked : {G : Sc} {u t : Cn} {g : TagName} {p : Place} {n : AttrName} {e : Ex} {as' : Ats} {f : Fault}
+      → attribute_type u g n ≡ Some t
+      → NotLinked G p n t e f
+      → AttributeFault G u g (attribute p n e as') f
+  later_attribute : {G : Sc} {u : Cn} {g : TagName} {p : Place} {n : AttrName} {e : Ex} {as' : Ats} {f : Fault}
+      → AttributeFault G u g as' f
+      → AttributeFault G u g (attribute p n e as') f
 
 -- an attribute of this name, as the second one
 pub data SecondAt : AttrName → Ats → Fault → Type 0 where
-  here : {p : Place} {n : AttrName} {e : Ex} {as' : Ats} → SecondAt n (attribute p n e as') (redeclared p (twice_attribute n))
-  further : {p : Place} {n m : AttrName} {e : Ex} {as' : Ats} {f : Fault} → SecondAt n as' f → SecondAt n (attribute p m e as') f
+  here : {p : Place} {n : AttrName} {e : Ex} {as' : Ats}
+      → SecondAt n (attribute p n e as') (redeclared p (twice_attribute n))
+  further : {p : Place} {n m : AttrName} {e : Ex} {as' : Ats} {f : Fault}
+      → SecondAt n as' f
+      → SecondAt n (attribute p m e as') f
 
 pub data AttributeTwice : Ats → Fault → Type 0 where
-  second_of : {p : Place} {n : AttrName} {e : Ex} {as' : Ats} {f : Fault} → SecondAt n as' f → AttributeTwice (attribute p n e as') f
-  later_twice : {p : Place} {n : AttrName} {e : Ex} {as' : Ats} {f : Fault} → AttributeTwice as' f → AttributeTwice (attribute p n e as') f
+  second_of : {p : Place} {n : AttrName} {e : Ex} {as' : Ats} {f : Fault}
+      → SecondAt n as' f
+      → AttributeTwice (attribute p n e as') f
+  later_twice : {p : Place} {n : AttrName} {e : Ex} {as' : Ats} {f : Fault}
+      → AttributeTwice as' f
+      → AttributeTwice (attribute p n e as') f
 
--- a node in an element: no tree, one of another type than its place wants, or with fields that clash with those before it, or with those of all behind it where these are well
+-- a node beside others: what it fills is no row of types; it has another type than its place and that row want; or
+-- it has
+-- another behind it, and clashes with the fields before it, or with those of all behind it where these are well
 pub data NodeFault : Sc → Cn → Cn → Xs → Fault → Type 0 where
-  no_tree : {G : Sc} {c u t k v n : Cn} {e : Ex} {xs : Xs} → Found G e t → normal_of t ≡ Some n → (IsTree n → ⊥) → normal_of c ≡ Some k → normal_of u ≡ Some v → NodeFault G c u (a_node e xs) (mismatch (place_of e) (xml_of k v no_types) n)
-  no_tree_in_large : {G : Sc} {c u t n : Cn} {e : Ex} {xs : Xs} → Found G e t → normal_of t ≡ Some n → (IsTree n → ⊥) → (normal_of c ≡ None) ⊎ (normal_of u ≡ None) → NodeFault G c u (a_node e xs) (too_large (place_of e))
-  large_tree : {G : Sc} {c u t : Cn} {e : Ex} {xs : Xs} → Found G e t → normal_of t ≡ None → NodeFault G c u (a_node e xs) (too_large (place_of e))
-  other_place : {G : Sc} {c u t m v b : Cn} {e : Ex} {xs : Xs} {f : Fault} → Found G e t → normal_of t ≡ Some (xml_of m v b) → Wants (place_of e) (xml_of c u b) t f → NodeFault G c u (a_node e xs) f
-  filled_before : {G : Sc} {c u t m v b : Cn} {e : Ex} {xs : Xs} {f : Fault} → Found G e t → normal_of t ≡ Some (xml_of m v b) → Meets G (place_of e) u b f → NodeFault G c u (a_node e xs) f
-  filled_behind : {G : Sc} {c u t m v b d : Cn} {e : Ex} {xs : Xs} {f : Fault} → Found G e t → normal_of t ≡ Some (xml_of m v b) → NodesFound no_cover G c (ordered (cat u b)) xs d → Meets G (place_of e) b d f → NodeFault G c u (a_node e xs) f
-  later_node : {G : Sc} {c u t m v b : Cn} {e : Ex} {xs : Xs} {f : Fault} → Found G e t → normal_of t ≡ Some (xml_of m v b) → NodeFault G c (ordered (cat u b)) xs f → NodeFault G c u (a_node e xs) f
+  -- x
+  fills_kind : {G : Sc} {c u b : Cn} {e : Ex} {xs : Xs} {f : Fault}
+      → LacksKind G (place_of e) b (row_of types) f
+      → NodeFault G c u (a_node b e xs) f
+  -- x
+  other_place : {G : Sc} {c u b t : Cn} {e : Ex} {xs : Xs} {f : Fault}
+      → HasKind G b (row_of types)
+      → Found G e t
+      → Wants G (place_of e) (xml_of c u b) t f
+      → NodeFault G c u (a_node b e xs) f
+  -- x y
+  filled_before : {G : Sc} {c u b h : Cn} {e d : Ex} {xs : Xs} {f : Fault}
+      → HasKind G b (row_of types)
+      → Meets G (place_of e) u b f
+      → NodeFault G c u (a_node b e (a_node h d xs)) f
+  -- x y
+  filled_behind : {G : Sc} {c u b h r : Cn} {e d : Ex} {xs : Xs} {f : Fault}
+      → HasKind G b (row_of types)
+      → NodesFound no_cover G c (ordered (cat u b)) (a_node h d xs) r
+      → Meets G (place_of e) b r f
+      → NodeFault G c u (a_node b e (a_node h d xs)) f
+  -- x y
+  later_node : {G : Sc} {c u b h : Cn} {e d : Ex} {xs : Xs} {f : Fault}
+      → HasKind G b (row_of types)
+      → NodeFault G c (ordered (cat u b)) (a_node h d xs) f
+      → NodeFault G c u (a_node b e (a_node h d xs)) f
 
 -- the first node that isn't text
 pub data NotWords : Xs → Ex → Type 0 where
-  this_node : {e : Ex} {xs : Xs} → (IsWords e → ⊥) → NotWords (a_node e xs) e
-  later_words : {d e : Ex} {xs : Xs} → IsWords d → NotWords xs e → NotWords (a_node d xs) e
+  this_node : {b : Cn} {e : Ex} {xs : Xs}
+      → (IsWords e → ⊥)
+      → NotWords (a_node b e xs) e
+  later_words : {b : Cn} {d e : Ex} {xs : Xs}
+      → IsWords d
+      → NotWords xs e
+      → NotWords (a_node b d xs) e
 
 -- what may stand with a form around it and without: a form, an input and a button have faults of their own for it
 abbrev pub StandsEitherWay : Sort → Type 0
@@ -192,72 +415,331 @@ StandsEitherWay (an_input t) = ⊥
 StandsEitherWay a_button = ⊥
 StandsEitherWay _ = Unit {0}
 
--- an element of a tag where it doesn't stand, with nodes that it doesn't hold, or with a field's name on another tag than an input's
+-- an element of a tag where it doesn't stand, with nodes that it doesn't hold, or with a field's name on another
+-- tag than an input's
 pub data ElementFault : Sc → Place → El → Fault → Type 0 where
-  stands_elsewhere : {G : Sc} {p : Place} {g : TagName} {n : Option Cn} {c u : Cn} {as' : Ats} {xs : Xs} {f : Fault} → StandsEitherWay (sort_of g) → ((o : Bool) → Alike (context_row (stands g) o) c → ⊥) → Wants p (context_row (stands g) false) c f → ElementFault G p (tagged g n c u as' xs) f
-  form_in_form : {G : Sc} {p : Place} {g : TagName} {n : Option Cn} {c u : Cn} {as' : Ats} {xs : Xs} {f : Fault} → sort_of g ≡ a_form → Wants p (context_row in_body false) c f → ElementFault G p (tagged g n c u as' xs) f
-  input_outside : {G : Sc} {p : Place} {g : TagName} {n : Option Cn} {t c u : Cn} {as' : Ats} {xs : Xs} {f : Fault} → sort_of g ≡ an_input t → Wants p (context_row in_body true) c f → ElementFault G p (tagged g n c u as' xs) f
-  button_outside : {G : Sc} {p : Place} {g : TagName} {n : Option Cn} {c u : Cn} {as' : Ats} {xs : Xs} {f : Fault} → sort_of g ≡ a_button → Wants p (context_row in_body true) c f → ElementFault G p (tagged g n c u as' xs) f
-  form_filled_before : {G : Sc} {p : Place} {g : TagName} {n : Option Cn} {c u : Cn} {as' : Ats} {xs : Xs} {f : Fault} → sort_of g ≡ a_form → Wants p no_types u f → ElementFault G p (tagged g n c u as' xs) f
-  uses_kind : {G : Sc} {p : Place} {g : TagName} {n : Option Cn} {c u : Cn} {as' : Ats} {xs : Xs} {f : Fault} → LacksKind G p u (row_of types) f → ElementFault G p (tagged g n c u as' xs) f
-  in_attributes : {G : Sc} {p : Place} {g : TagName} {n : Option Cn} {c u : Cn} {as' : Ats} {xs : Xs} {f : Fault} → AttributeFault G u g as' f → ElementFault G p (tagged g n c u as' xs) f
-  same_attribute : {G : Sc} {p : Place} {g : TagName} {n : Option Cn} {c u : Cn} {as' : Ats} {xs : Xs} {f : Fault} → AttributeTwice as' f → ElementFault G p (tagged g n c u as' xs) f
-  no_name : {G : Sc} {p : Place} {g : TagName} {t c u : Cn} {as' : Ats} {xs : Xs} → sort_of g ≡ an_input t → ElementFault G p (tagged g None c u as' xs) (unbound p an_input_name)
-  name_kind_of : {G : Sc} {p : Place} {g : TagName} {c u n : Cn} {as' : Ats} {xs : Xs} {f : Fault} → LacksKind G p n names f → ElementFault G p (tagged g (Some n) c u as' xs) f
-  name_on_other : {G : Sc} {p : Place} {g : TagName} {c u n m : Cn} {as' : Ats} {xs : Xs} → ((t : Cn) → sort_of g ≡ an_input t → ⊥) → HasKind G n names → normal_of n ≡ Some m → ElementFault G p (tagged g (Some n) c u as' xs) (mismatch p no_types (one_field m unit_con))
-  large_on_other : {G : Sc} {p : Place} {g : TagName} {c u n : Cn} {as' : Ats} {xs : Xs} → ((t : Cn) → sort_of g ≡ an_input t → ⊥) → HasKind G n names → normal_of n ≡ None → ElementFault G p (tagged g (Some n) c u as' xs) (too_large p)
-  holds_nothing : {G : Sc} {p : Place} {g : TagName} {n : Option Cn} {c u t : Cn} {as' : Ats} {e : Ex} {xs : Xs} {f : Fault} → sort_of g ≡ empty → Found G e t → NotHeld (place_of e) t f → ElementFault G p (tagged g n c u as' (a_node e xs)) f
-  input_holds_nothing : {G : Sc} {p : Place} {g : TagName} {n : Option Cn} {c u t v : Cn} {as' : Ats} {e : Ex} {xs : Xs} {f : Fault} → sort_of g ≡ an_input v → Found G e t → NotHeld (place_of e) t f → ElementFault G p (tagged g n c u as' (a_node e xs)) f
-  button_holds_nothing : {G : Sc} {p : Place} {g : TagName} {n : Option Cn} {c u t : Cn} {as' : Ats} {e : Ex} {xs : Xs} {f : Fault} → sort_of g ≡ a_button → Found G e t → NotHeld (place_of e) t f → ElementFault G p (tagged g n c u as' (a_node e xs)) f
-  no_words : {G : Sc} {p : Place} {g : TagName} {k : Option Cn} {c u t n : Cn} {as' : Ats} {e : Ex} {xs : Xs} → sort_of g ≡ of_words → NotWords xs e → Found G e t → normal_of t ≡ Some n → n ≢ string_type → ElementFault G p (tagged g k c u as' xs) (mismatch (place_of e) string_type n)
-  large_words : {G : Sc} {p : Place} {g : TagName} {k : Option Cn} {c u t : Cn} {as' : Ats} {e : Ex} {xs : Xs} → sort_of g ≡ of_words → NotWords xs e → Found G e t → normal_of t ≡ None → ElementFault G p (tagged g k c u as' xs) (too_large (place_of e))
-  in_nodes : {G : Sc} {p : Place} {g : TagName} {n : Option Cn} {w : Where} (o : Bool) {c u : Cn} {as' : Ats} {xs : Xs} {f : Fault} → sort_of g ≡ holding w → MayBeInForm (stands g) o → Alike (context_row (stands g) o) c → NodeFault G (context_row w o) u xs f → ElementFault G p (tagged g n c u as' xs) f
-  in_title : {G : Sc} {p : Place} {g : TagName} {n : Option Cn} (o : Bool) {c u : Cn} {as' : Ats} {xs : Xs} {f : Fault} → sort_of g ≡ of_words → Alike (context_row (stands g) o) c → NodeFault G (context_row (stands g) o) u xs f → ElementFault G p (tagged g n c u as' xs) f
-  in_form_nodes : {G : Sc} {p : Place} {g : TagName} {n : Option Cn} {c u : Cn} {as' : Ats} {xs : Xs} {f : Fault} → sort_of g ≡ a_form → NodeFault G (context_row in_body true) no_types xs f → ElementFault G p (tagged g n c u as' xs) f
-  no_action : {G : Sc} {p : Place} {g : TagName} {n : Option Cn} {c u : Cn} {as' : Ats} {xs : Xs} → sort_of g ≡ a_button → (HasAttribute as' attr.Action → ⊥) → ElementFault G p (tagged g n c u as' xs) (link_not_call p)
+  stands_elsewhere : {G : Sc} {p : Place} {g : TagName} {n : Option (Place × Cn)} {c u : Cn} {as' : Ats} {xs : Xs}
+      {f : Fault}
+      → StandsEitherWay (sort_of g)
+      → ((o : Bool) → Alike (context_row (stands g) o) c → ⊥)
+      → Wants G p (context_row (stands g) false) c f
+      → ElementFault G p (tagged g n c u as' xs) f
+  form_in_form : {G : Sc} {p : Place} {g : TagName} {n : Option (Place × Cn)} {c u : Cn} {as' : Ats} {xs : Xs}
+      {f : Fault}
+      → sort_of g ≡ a_form
+      → Wants G p (context_row in_body false) c f
+      → ElementFault G p (tagged g n c u as' xs) f
+  input_outside : {G : Sc} {p : Place} {g : TagName} {n : Option (Place × Cn)} {t c u : Cn} {as' : Ats} {xs : Xs}
+      {f : Fault}
+      → sort_of g ≡ an_input t
+      → Wants G p (context_row in_body true) c f
+      → ElementFault G p (tagged g n c u as' xs) f
+  button_outside : {G : Sc} {p : Place} {g : TagName} {n : Option (Place × Cn)} {c u : Cn} {as' : Ats} {xs : Xs}
+      {f : Fault}
+      → sort_of g ≡ a_button
+      → Wants G p (context_row in_body true) c f
+      → ElementFault G p (tagged g n c u as' xs) f
+  form_filled_before : {G : Sc} {p : Place} {g : TagName} {n : Option (Place × Cn)} {c u : Cn} {as' : Ats} {xs : Xs}
+      {f : Fault}
+      → sort_of g ≡ a_form
+      → Wants G p no_types u f
+      → ElementFault G p (tagged g n c u as' xs) f
+  uses_kind : {G : Sc} {p : Place} {g : TagName} {n : Option (Place × Cn)} {c u : Cn} {as' : Ats} {xs : Xs}
+      {f : Fault}
+      → LacksKind G p u (row_of types) f
+      → ElementFault G p (tagged g n c u as' xs) f
+  in_attributes : {G : Sc} {p : Place} {g : TagName} {n : Option (Place × Cn)} {c u : Cn} {as' : Ats} {xs : Xs}
+      {f : Fault}
+      → AttributeFault G u g as' f
+      → ElementFault G p (tagged g n c u as' xs) f
+  same_attribute : {G : Sc} {p : Place} {g : TagName} {n : Option (Place × Cn)} {c u : Cn} {as' : Ats} {xs : Xs}
+      {f : Fault}
+      → AttributeTwice as' f
+      → ElementFault G p (tagged g n c u as' xs) f
+  no_name : {G : Sc} {p : Place} {g : TagName} {t c u : Cn} {as' : Ats} {xs : Xs}
+      → sort_of g ≡ an_input t
+      → ElementFault G p (tagged g None c u as' xs) (unbound p an_input_name)
+  name_kind_of : {G : Sc} {p at : Place} {g : TagName} {c u n : Cn} {as' : Ats} {xs : Xs} {f : Fault}
+      → LacksKind G at n names f
+      → ElementFault G p (tagged g (Some (at, n)) c u as' xs) f
+  name_on_other : {G : Sc} {p at : Place} {g : TagName} {c u n m : Cn} {as' : Ats} {xs : Xs}
+      → ((t : Cn) → sort_of g ≡ an_input t → ⊥)
+      → HasKind G n names
+      → normal_of n ≡ Some m
+      → ElementFault G p (tagged g (Some (at, n)) c u as' xs) (mismatch at G.called no_types (one_field m unit_con))
+  large_on_other : {G : Sc} {p at : Place} {g : TagName} {c u n : Cn} {as' : Ats} {xs : Xs}
+      → ((t : Cn) → sort_of g ≡ an_input t → ⊥)
+      → HasKind G n names
+      → normal_of n ≡ None
+      → ElementFault G p (tagged g (Some (at, n)) c u as' xs) (too_large at)
+  holds_nothing : {G : Sc} {p : Place} {g : TagName} {n : Option (Place × Cn)} {c u b t : Cn} {as' : Ats} {e : Ex}
+      {xs : Xs} {f : Fault}
+      → sort_of g ≡ empty
+      → Found G e t
+      → NotHeld G (place_of e) t f
+      → ElementFault G p (tagged g n c u as' (a_node b e xs)) f
+  input_holds_nothing : {G : Sc} {p : Place} {g : TagName} {n : Option (Place × Cn)} {c u b t v : Cn} {as' : Ats}
+      {e : Ex} {xs : Xs} {f : Fault}
+      → sort_of g ≡ an_input v
+      → Found G e t
+      → NotHeld G (place_of e) t f
+      → ElementFault G p (tagged g n c u as' (a_node b e xs)) f
+  button_holds_nothing : {G : Sc} {p : Place} {g : TagName} {n : Option (Place × Cn)} {c u b t : Cn} {as' : Ats}
+      {e : Ex} {xs : Xs} {f : Fault}
+      → sort_of g ≡ a_button
+      → Found G e t
+      → NotHeld G (place_of e) t f
+      → ElementFault G p (tagged g n c u as' (a_node b e xs)) f
+  no_words : {G : Sc} {p : Place} {g : TagName} {k : Option (Place × Cn)} {c u t n : Cn} {as' : Ats} {e : Ex}
+      {xs : Xs}
+      → sort_of g ≡ of_words
+      → NotWords xs e
+      → Found G e t
+      → normal_of t ≡ Some n
+      → ElementFault G p (tagged g k c u as' xs) (mismatch (place_of e) G.called (words_like n) n)
+  large_words : {G : Sc} {p : Place} {g : TagName} {k : Option (Place × Cn)} {c u t : Cn} {as' : Ats} {e : Ex}
+      {xs : Xs}
+      → sort_of g ≡ of_words
+      → NotWords xs e
+      → Found G e t
+      → normal_of t ≡ None
+      → ElementFault G p (tagged g k c u as' xs) (too_large (place_of e))
+  in_nodes : {G : Sc} {p : Place} {g : TagName} {n : Option (Place × Cn)} {w : Where} (o : Bool) {c u : Cn}
+      {as' : Ats} {xs : Xs} {f : Fault}
+      → sort_of g ≡ holding w
+      → MayBeInForm (stands g) o
+      → Alike (context_row (stands g) o) c
+      → NodeFault G (context_row w o) u xs f
+      → ElementFault G p (tagged g n c u as' xs) f
+  in_title : {G : Sc} {p : Place} {g : TagName} {n : Option (Place × Cn)} (o : Bool) {c u : Cn} {as' : Ats}
+      {xs : Xs} {f : Fault}
+      → sort_of g ≡ of_words
+      → Alike (context_row (stands g) o) c
+      → NodeFault G (context_row (stands g) o) u xs f
+      → ElementFault G p (tagged g n c u as' xs) f
+  in_form_nodes : {G : Sc} {p : Place} {g : TagName} {n : Option (Place × Cn)} {c u : Cn} {as' : Ats} {xs : Xs}
+      {f : Fault}
+      → sort_of g ≡ a_form
+      → NodeFault G (context_row in_body true) no_types xs f
+      → ElementFault G p (tagged g n c u as' xs) f
+  no_action : {G : Sc} {p : Place} {g : TagName} {n : Option (Place × Cn)} {c u : Cn} {as' : Ats} {xs : Xs}
+      → sort_of g ≡ a_button
+      → (HasAttribute as' attr.Action → ⊥)
+      → ElementFault G p (tagged g n c u as' xs) (link_not_call p)
 
 -- all patterns are found
 pub data PatsFound : Sc → Cn → List Pt → Type 0 where
   no_pats : {G : Sc} {t : Cn} → PatsFound G t []
-  a_pat : {G : Sc} {t : Cn} {q : Pt} {qs : List Pt} {ts : List Cn} → PatFound G q t ts → PatsFound G t qs → PatsFound G t (q ∷ qs)
+  a_pat : {G : Sc} {t : Cn} {q : Pt} {qs : List Pt} {ts : List Cn}
+      → PatFound G q t ts
+      → PatsFound G t qs
+      → PatsFound G t (q ∷ qs)
 
 -- a premise of the node's own rule fails, and this is what it keeps
 pub data Own : Sc → Ex → Fault → Type 0 where
-  no_variable : {G : Sc} {p : Place} {a : Bool} {i : ℕ} → slice_get G.locals i ≡ None → Own G (node p a (bound i)) (unbound p (a_variable i))
-  no_value : {G : Sc} {p : Place} {a : Bool} {i : ℕ} → slice_get G.tops i ≡ None → Own G (node p a (top i)) (unbound p (a_value i))
-  no_effect : {G : Sc} {p : Place} {a : Bool} {i : ℕ} → (i < G.effects → ⊥) → Own G (node p a (foreign i)) (unbound p (an_effect i))
-  no_fold : {G : Sc} {p : Place} {a : Bool} {k : Kd} → folder_of G.folders k ≡ None → Own G (node p a (fold_over k)) (unbound p (a_folder k))
-  no_constructor : {G : Sc} {p : Place} {a : Bool} {s j : ℕ} → ((d : Dt) (c : Cd) → datatype_of G.datatypes s ≡ Some d → slice_get d.constructors j ≡ Some c → ⊥) → Own G (node p a (built s j)) (unbound p (a_constructor s j))
-  parameter_kind : {G : Sc} {p : Place} {a w : Bool} {q : Pt} {t : Cn} {e : Ex} {f : Fault} → LacksKind G p t types f → Own G (node p a (fn q w t e)) f
-  parameter_pattern : {G : Sc} {p : Place} {a w : Bool} {q : Pt} {t : Cn} {e : Ex} {f : Fault} → HasKind G t types → PatFault G q t f → Own G (node p a (fn q w t e)) f
-  parameter_cover : {G : Sc} {p : Place} {a w : Bool} {q : Pt} {t : Cn} {ts : List Cn} {e : Ex} {f : Fault} → HasKind G t types → PatFound G q t ts → Uncovered G p (q ∷ []) t f → Own G (node p a (fn q w t e)) f
+  -- x
+  no_variable : {G : Sc} {p : Place} {a : Bool} {i : ℕ}
+      → slice_get G.locals i ≡ None
+      → Own G (node p a (bound i)) (unbound p (a_variable i))
+  -- M.x
+  no_value : {G : Sc} {p : Place} {a : Bool} {i : ℕ}
+      → slice_get G.tops i ≡ None
+      → Own G (node p a (top i)) (unbound p (a_value i))
+  -- M.f
+  no_effect : {G : Sc} {p : Place} {a : Bool} {i : ℕ}
+      → (i < G.effects → ⊥)
+      → Own G (node p a (foreign i)) (unbound p (an_effect i))
+  -- fold
+  no_fold : {G : Sc} {p : Place} {a : Bool} {k : Kd}
+      → folder_of G.folders k ≡ None
+      → Own G (node p a (fold_over k)) (unbound p (a_folder k))
+  -- C
+  no_constructor : {G : Sc} {p : Place} {a : Bool} {s j : ℕ}
+      → ((d : Dt) (c : Cd) → datatype_of G.datatypes s ≡ Some d → slice_get d.constructors j ≡ Some c → ⊥)
+      → Own G (node p a (built s j)) (unbound p (a_constructor s j))
+  -- fn p => e
+  parameter_kind : {G : Sc} {p : Place} {a : Bool} {q : Pt} {t : Cn} {e : Ex} {f : Fault}
+      → LacksKind G p t types f
+      → Own G (node p a (fn q t e)) f
+  -- fn p => e
+  parameter_pattern : {G : Sc} {p : Place} {a : Bool} {q : Pt} {t : Cn} {e : Ex} {f : Fault}
+      → HasKind G t types
+      → PatFault G q t f
+      → Own G (node p a (fn q t e)) f
+  -- fn p => e
+  parameter_cover : {G : Sc} {p : Place} {a : Bool} {q : Pt} {t : Cn} {ts : List Cn} {e : Ex} {f : Fault}
+      → HasKind G t types
+      → PatFound G q t ts
+      → Uncovered G p (q ∷ []) t f
+      → Own G (node p a (fn q t e)) f
   -- a guard's side is no row, or the comparison of the two would be too large
-  bad_guard : {G : Sc} {p : Place} {a : Bool} {c d : Cn} {e : Ex} {w : Flw} → guard_forms G.kinds c d ≡ Err w → Own G (node p a (fn_guard c d e)) (flaw_at p w)
-  an_item : {G : Sc} {p : Place} {a : Bool} {g : Ex} {is : Its} {t : Cn} {f : Fault} → Found G g t → ItemFault G (place_of g) t is f → Own G (node p a (call g is)) f
-  a_local : {G : Sc} {p : Place} {a : Bool} {ls : Los} {e : Ex} {f : Fault} → LocalFault G ls f → Own G (node p a (let_in ls e)) f
-  first_pattern : {G : Sc} {p q : Place} {a : Bool} {e b : Ex} {r : Pt} {bs : Brs} {t : Cn} {f : Fault} → Found G e t → PatFault G r t f → Own G (node p a (case_of e q r b bs)) f
-  a_later_pattern : {G : Sc} {p q : Place} {a : Bool} {e b : Ex} {r : Pt} {bs : Brs} {t : Cn} {f : Fault} → Found G e t → BranchFault G t bs f → Own G (node p a (case_of e q r b bs)) f
-  branches_differ : {G : Sc} {p q : Place} {a : Bool} {e b : Ex} {r : Pt} {bs : Brs} {t u : Cn} {ts : List Cn} {f : Fault} → Found G e t → PatFound G r t ts → Found (under ts G) b u → BranchDiffers G t u bs f → Own G (node p a (case_of e q r b bs)) f
-  not_covered : {G : Sc} {p q : Place} {a : Bool} {e b : Ex} {r : Pt} {bs : Brs} {t : Cn} {f : Fault} → Found G e t → PatsFound G t (r ∷ branch_patterns bs) → Uncovered G p (r ∷ branch_patterns bs) t f → Own G (node p a (case_of e q r b bs)) f
-  written_kind : {G : Sc} {p : Place} {a : Bool} {e : Ex} {t : Cn} {f : Fault} → LacksKind G p t types f → Own G (node p a (ascribed e t)) f
-  not_as_written : {G : Sc} {p : Place} {a : Bool} {e : Ex} {t u : Cn} {f : Fault} → HasKind G t types → Found G e u → Wants (place_of e) t u f → Own G (node p a (ascribed e t)) f
-  a_field : {G : Sc} {p : Place} {a : Bool} {fs : Fds} {f : Fault} → FieldFault G fs f → Own G (node p a (fields_of fs)) f
-  same_names : {G : Sc} {p : Place} {a : Bool} {fs : Fds} {ps : Prs} {f : Fault} → FieldsFound no_cover G fs ps → LacksKind G p (type_row ps) (row_of types) f → Own G (node p a (fields_of fs)) f
-  select_no_record : {G : Sc} {p : Place} {a : Bool} {e : Ex} {c t : Cn} {f : Fault} → Found G e t → NotOf IsRecord (place_of e) any_record t f → Own G (node p a (select e c)) f
-  select_kind : {G : Sc} {p : Place} {a : Bool} {e : Ex} {c : Cn} {f : Fault} → LacksKind G p c names f → Own G (node p a (select e c)) f
-  select_large : {G : Sc} {p : Place} {a : Bool} {e : Ex} {c t r : Cn} → Found G e t → normal_of t ≡ Some (record_of r) → HasKind G c names → Large t c → Own G (node p a (select e c)) (too_large p)
-  select_no_field : {G : Sc} {p : Place} {a : Bool} {e : Ex} {c n t r : Cn} → Found G e t → RecordAnd t c r n → HasKind G c names → field_of n (ordered_pieces r) ≡ None → Own G (node p a (select e c)) (mismatch p (record_of (one_field n unit_con)) (record_of r))
-  left_no_record : {G : Sc} {p : Place} {a : Bool} {e d : Ex} {t : Cn} {f : Fault} → Found G e t → NotOf IsRecord (place_of e) any_record t f → Own G (node p a (concat e d)) f
-  right_no_record : {G : Sc} {p : Place} {a : Bool} {e d : Ex} {t : Cn} {f : Fault} → Found G d t → NotOf IsRecord (place_of d) any_record t f → Own G (node p a (concat e d)) f
-  clash : {G : Sc} {p : Place} {a : Bool} {e d : Ex} {t u r s : Cn} {f : Fault} → Found G e t → Found G d u → normal_of t ≡ Some (record_of r) → normal_of u ≡ Some (record_of s) → Meets G p r s f → Own G (node p a (concat e d)) f
-  without_no_record : {G : Sc} {p : Place} {a : Bool} {e : Ex} {c t : Cn} {f : Fault} → Found G e t → NotOf IsRecord (place_of e) any_record t f → Own G (node p a (without e c)) f
-  without_kind : {G : Sc} {p : Place} {a : Bool} {e : Ex} {c : Cn} {f : Fault} → LacksKind G p c names f → Own G (node p a (without e c)) f
-  without_large : {G : Sc} {p : Place} {a : Bool} {e : Ex} {c t r : Cn} → Found G e t → normal_of t ≡ Some (record_of r) → HasKind G c names → Large t c → Own G (node p a (without e c)) (too_large p)
-  without_no_field : {G : Sc} {p : Place} {a : Bool} {e : Ex} {c n t r : Cn} → Found G e t → RecordAnd t c r n → HasKind G c names → field_of n (ordered_pieces r) ≡ None → Own G (node p a (without e c)) (mismatch p (record_of (one_field n unit_con)) (record_of r))
-  row_no_record : {G : Sc} {p : Place} {a : Bool} {e : Ex} {c t : Cn} {f : Fault} → Found G e t → NotOf IsRecord (place_of e) any_record t f → Own G (node p a (without_row e c)) f
-  row_kind : {G : Sc} {p : Place} {a : Bool} {e : Ex} {c : Cn} {f : Fault} → LacksKind G p c (row_of types) f → Own G (node p a (without_row e c)) f
-  row_large : {G : Sc} {p : Place} {a : Bool} {e : Ex} {c t r : Cn} → Found G e t → normal_of t ≡ Some (record_of r) → HasKind G c (row_of types) → Large t c → Own G (node p a (without_row e c)) (too_large p)
-  row_not_there : {G : Sc} {p : Place} {a : Bool} {e : Ex} {c n t r : Cn} → Found G e t → RecordAnd t c r n → HasKind G c (row_of types) → without_pieces (ordered_pieces n) (ordered_pieces r) ≡ None → Own G (node p a (without_row e c)) (mismatch p (record_of n) (record_of r))
-  no_folder : {G : Sc} {p : Place} {a : Bool} {k : Kd} {ps : Prs} → folder_of G.folders k ≡ None → Own G (node p a (folder k ps)) (unbound p (a_folder k))
-  folder_kind : {G : Sc} {p : Place} {a : Bool} {k : Kd} {ps : Prs} {f : Fault} → LacksKind G p (row k ps) (row_of k) f → Own G (node p a (folder k ps)) f
-  an_element : {G : Sc} {p : Place} {a : Bool} {m : El} {f : Fault} → ElementFault G p m f → Own G (node p a (element m)) f
+  bad_guard : {G : Sc} {p : Place} {a : Bool} {c d : Cn} {e : Ex} {w : Flw}
+      → guard_forms G.kinds c d ≡ Err w
+      → Own G (node p a (fn_guard c d e)) (flaw_at p G.called w)
+  -- f e [c] !
+  an_item : {G : Sc} {p : Place} {a : Bool} {g : Ex} {s : Sigil} {is : Its} {t : Cn} {f : Fault}
+      → Found G g t
+      → ItemFault G (place_of g) t is f
+      → Own G (node p a (call g s is)) f
+  -- let d in e end
+  a_local : {G : Sc} {p : Place} {a : Bool} {ls : Los} {e : Ex} {f : Fault}
+      → LocalFault G ls f
+      → Own G (node p a (let_in ls e)) f
+  -- case e of p => b | ..
+  first_pattern : {G : Sc} {p q : Place} {a : Bool} {e b : Ex} {r : Pt} {bs : Brs} {t : Cn} {f : Fault}
+      → Found G e t
+      → PatFault G r t f
+      → Own G (node p a (case_of e q r b bs)) f
+  -- case e of .. | p => b ..
+  a_later_pattern : {G : Sc} {p q : Place} {a : Bool} {e b : Ex} {r : Pt} {bs : Brs} {t : Cn} {f : Fault}
+      → Found G e t
+      → BranchFault G t bs f
+      → Own G (node p a (case_of e q r b bs)) f
+  -- case e of .. | p => b ..
+  branches_differ : {G : Sc} {p q : Place} {a : Bool} {e b : Ex} {r : Pt} {bs : Brs} {t u : Cn} {ts : List Cn}
+      {f : Fault}
+      → Found G e t
+      → PatFound G r t ts
+      → Found (under ts G) b u
+      → BranchDiffers G t u bs f
+      → Own G (node p a (case_of e q r b bs)) f
+  -- case e of p => b | ..
+  not_covered : {G : Sc} {p q : Place} {a : Bool} {e b : Ex} {r : Pt} {bs : Brs} {t : Cn} {f : Fault}
+      → Found G e t
+      → PatsFound G t (r ∷ branch_patterns bs)
+      → Uncovered G p (r ∷ branch_patterns bs) t f
+      → Own G (node p a (case_of e q r b bs)) f
+  -- (e : t)
+  written_kind : {G : Sc} {p : Place} {a : Bool} {e : Ex} {t : Cn} {f : Fault}
+      → LacksKind G p t types f
+      → Own G (node p a (ascribed e t)) f
+  -- (e : t)
+  not_as_written : {G : Sc} {p : Place} {a : Bool} {e : Ex} {t u : Cn} {f : Fault}
+      → HasKind G t types
+      → Found G e u
+      → Wants G (place_of e) t u f
+      → Own G (node p a (ascribed e t)) f
+  -- {n = e, ..}
+  a_field : {G : Sc} {p : Place} {a : Bool} {fs : Fds} {f : Fault}
+      → FieldFault G fs f
+      → Own G (node p a (fields_of fs)) f
+  -- {n = e, ..}
+  same_names : {G : Sc} {p : Place} {a : Bool} {fs : Fds} {ps : Prs} {f : Fault}
+      → FieldsFound no_cover G fs ps
+      → LacksKind G p (type_row ps) (row_of types) f
+      → Own G (node p a (fields_of fs)) f
+  -- e.c
+  select_no_record : {G : Sc} {p : Place} {a : Bool} {e : Ex} {c t : Cn} {f : Fault}
+      → Found G e t
+      → NotOf IsRecord G (place_of e) any_record t f
+      → Own G (node p a (select e c)) f
+  -- e.c
+  select_kind : {G : Sc} {p : Place} {a : Bool} {e : Ex} {c : Cn} {f : Fault}
+      → LacksKind G p c names f
+      → Own G (node p a (select e c)) f
+  -- e.c
+  select_large : {G : Sc} {p : Place} {a : Bool} {e : Ex} {c t r : Cn}
+      → Found G e t
+      → normal_of t ≡ Some (record_of r)
+      → HasKind G c names
+      → Large t c
+      → Own G (node p a (select e c)) (too_large p)
+  -- e.c
+  select_no_field : {G : Sc} {p : Place} {a : Bool} {e : Ex} {c n t r : Cn}
+      → Found G e t
+      → RecordAnd t c r n
+      → HasKind G c names
+      → field_of n (ordered_pieces r) ≡ None
+      → Own G (node p a (select e c)) (mismatch p G.called (record_of (one_field n unit_con)) (record_of r))
+  -- e ++ d
+  left_no_record : {G : Sc} {p : Place} {a : Bool} {e d : Ex} {t : Cn} {f : Fault}
+      → Found G e t
+      → NotOf IsRecord G (place_of e) any_record t f
+      → Own G (node p a (concat e d)) f
+  -- e ++ d
+  right_no_record : {G : Sc} {p : Place} {a : Bool} {e d : Ex} {t : Cn} {f : Fault}
+      → Found G d t
+      → NotOf IsRecord G (place_of d) any_record t f
+      → Own G (node p a (concat e d)) f
+  -- e ++ d
+  clash : {G : Sc} {p : Place} {a : Bool} {e d : Ex} {t u r s : Cn} {f : Fault}
+      → Found G e t
+      → Found G d u
+      → normal_of t ≡ Some (record_of r)
+      → normal_of u ≡ Some (record_of s)
+      → Meets G p r s f
+      → Own G (node p a (concat e d)) f
+  -- e -- c
+  without_no_record : {G : Sc} {p : Place} {a : Bool} {e : Ex} {c t : Cn} {f : Fault}
+      → Found G e t
+      → NotOf IsRecord G (place_of e) any_record t f
+      → Own G (node p a (without e c)) f
+  -- e -- c
+  without_kind : {G : Sc} {p : Place} {a : Bool} {e : Ex} {c : Cn} {f : Fault}
+      → LacksKind G p c names f
+      → Own G (node p a (without e c)) f
+  -- e -- c
+  without_large : {G : Sc} {p : Place} {a : Bool} {e : Ex} {c t r : Cn}
+      → Found G e t
+      → normal_of t ≡ Some (record_of r)
+      → HasKind G c names
+      → Large t c
+      → Own G (node p a (without e c)) (too_large p)
+  -- e -- c
+  without_no_field : {G : Sc} {p : Place} {a : Bool} {e : Ex} {c n t r : Cn}
+      → Found G e t
+      → RecordAnd t c r n
+      → HasKind G c names
+      → field_of n (ordered_pieces r) ≡ None
+      → Own G (node p a (without e c)) (mismatch p G.called (record_of (one_field n unit_con)) (record_of r))
+  -- e --- c
+  row_no_record : {G : Sc} {p : Place} {a : Bool} {e : Ex} {c t : Cn} {f : Fault}
+      → Found G e t
+      → NotOf IsRecord G (place_of e) any_record t f
+      → Own G (node p a (without_row e c)) f
+  -- e --- c
+  row_kind : {G : Sc} {p : Place} {a : Bool} {e : Ex} {c : Cn} {f : Fault}
+      → LacksKind G p c (row_of types) f
+      → Own G (node p a (without_row e c)) f
+  -- e --- c
+  row_large : {G : Sc} {p : Place} {a : Bool} {e : Ex} {c t r : Cn}
+      → Found G e t
+      → normal_of t ≡ Some (record_of r)
+      → HasKind G c (row_of types)
+      → Large t c
+      → Own G (node p a (without_row e c)) (too_large p)
+  -- e --- c
+  row_not_there : {G : Sc} {p : Place} {a : Bool} {e : Ex} {c n t r : Cn}
+      → Found G e t
+      → RecordAnd t c r n
+      → HasKind G c (row_of types)
+      → without_pieces (ordered_pieces n) (ordered_pieces r) ≡ None
+      → Own G (node p a (without_row e c)) (mismatch p G.called (record_of n) (record_of r))
+  -- the folder of a row
+  no_folder : {G : Sc} {p : Place} {a : Bool} {k : Kd} {ps : Prs}
+      → folder_of G.folders k ≡ None
+      → Own G (node p a (folder k ps)) (unbound p (a_folder k))
+  -- the folder of a row
+  folder_kind : {G : Sc} {p : Place} {a : Bool} {k : Kd} {ps : Prs} {f : Fault}
+      → LacksKind G p (row k ps) (row_of k) f
+      → Own G (node p a (folder k ps)) f
+  -- <a ..>x y</a>
+  an_element : {G : Sc} {p : Place} {a : Bool} {m : El} {f : Fault}
+      → ElementFault G p m f
+      → Own G (node p a (element m)) f
+  -- <xml>x y</xml>
+  literal_context : {G : Sc} {p : Place} {a : Bool} {c u : Cn} {xs : Xs} {f : Fault}
+      → LacksKind G p c (row_of units) f
+      → Own G (node p a (literal c u xs)) f
+  -- <xml>x y</xml>
+  literal_uses : {G : Sc} {p : Place} {a : Bool} {c u : Cn} {xs : Xs} {f : Fault}
+      → LacksKind G p u (row_of types) f
+      → Own G (node p a (literal c u xs)) f
+  -- <xml>x y</xml>
+  literal_node : {G : Sc} {p : Place} {a : Bool} {c u : Cn} {xs : Xs} {f : Fault}
+      → HasKind G c (row_of units)
+      → HasKind G u (row_of types)
+      → NodeFault G c u xs f
+      → Own G (node p a (literal c u xs)) f
+  -- (SELECT ..)
+  no_rule : {G : Sc} {p : Place} {a : Bool} {k : Sk} {es : Exs} → Own G (node p a (sql k es)) (not_built p)

@@ -3,7 +3,7 @@ use Rattle.std.specs.Prelude.{◌≡◌, ℕ, zero, suc, ℤ, Bool, true, false,
 use Rattle.con_terms.specs.Trees.{types, names, Cn, basic, arrow, unit_con, record_of, no_pairs}
 use Rattle.con_terms.specs.declared.place.Place.{Place}
 use Rattle.row_normal.specs.Ordered.{ordered_pieces, joined, glued}
-use Rattle.core_terms.specs.Trees.{Pt, pattern, any, binds, is_number, is_text, is_bare, is_holding, has_fields, annotated, Pfs, no_pat_fields, pat_field, Cd, Dt}
+use Rattle.core_terms.specs.Trees.{Pt, pattern, any, binds, is_number, is_text, is_bare, is_holding, has_fields, annotated, Pfs, no_pat_fields, pat_field, Cd, Dt, arity}
 use Rattle.core_terms.specs.Types.{int_type, string_type, unit_type, one_field, type_row, at_types}
 use Rattle.core_terms.specs.Datatypes.{datatype_of, held_at}
 use Rattle.core_typing.specs.Scopes.{Sc, normal_of}
@@ -37,56 +37,215 @@ pub record AtData (G : Sc) (s j : ℕ) (t : Cn) (c : Cd) (args : List Cn) : Type
 mutual
   -- what a pattern binds at a type, the innermost first
   pub data PatFound : Sc → Pt → Cn → List Cn → Type 0 where
+    -- _
     any_binds : {G : Sc} {p : Place} {t : Cn} → PatFound G (pattern p any) t []
-    binds_one : {G : Sc} {p : Place} {x : ℕ} {w : Bool} {t u : Cn} → HasKind G u types → Alike t u → PatFound G (pattern p (binds x w u)) t (u ∷ [])
-    number_binds : {G : Sc} {p : Place} {z : ℤ} {t : Cn} → Alike t int_type → PatFound G (pattern p (is_number z)) t []
-    text_binds : {G : Sc} {p : Place} {w : List ℕ} {t : Cn} → Alike t string_type → PatFound G (pattern p (is_text w)) t []
-    bare_binds : {G : Sc} {p : Place} {s j : ℕ} {t : Cn} {c : Cd} {args : List Cn} → AtData G s j t c args → c.holds ≡ None → PatFound G (pattern p (is_bare s j)) t []
-    holding_binds : {G : Sc} {p : Place} {s j : ℕ} {t held : Cn} {c : Cd} {args ts : List Cn} {q : Pt} → AtData G s j t c args → c.holds ≡ Some held → PatFound G q (held_at args held) ts → PatFound G (pattern p (is_holding s j q)) t ts
-    fields_bind : {G : Sc} {p : Place} {fs : Pfs} {t r : Cn} {ts : List Cn} → normal_of t ≡ Some (record_of r) → PatFieldsFound G fs (ordered_pieces r) [] ts → PatFound G (pattern p (has_fields fs false)) t ts
-    more_fields_bind : {G : Sc} {p : Place} {fs : Pfs} {t r : Cn} {rest ts : List Cn} → normal_of t ≡ Some (record_of r) → PatFieldsFound G fs (ordered_pieces r) rest ts → PatFound G (pattern p (has_fields fs true)) t ts
-    annotated_binds : {G : Sc} {p : Place} {q : Pt} {t u : Cn} {ts : List Cn} → HasKind G u types → Alike t u → PatFound G q u ts → PatFound G (pattern p (annotated q u)) t ts
+    -- x : t
+    binds_one : {G : Sc} {p : Place} {x : ℕ} {w : Bool} {t u : Cn}
+        → HasKind G u types
+        → Alike t u
+        → PatFound G (pattern p (binds x w u)) t (u ∷ [])
+    -- 1
+    number_binds : {G : Sc} {p : Place} {z : ℤ} {t : Cn}
+        → Alike t int_type
+        → PatFound G (pattern p (is_number z)) t []
+    -- "a"
+    text_binds : {G : Sc} {p : Place} {w : List ℕ} {t : Cn}
+        → Alike t string_type
+        → PatFound G (pattern p (is_text w)) t []
+    -- C
+    bare_binds : {G : Sc} {p : Place} {s j : ℕ} {t : Cn} {c : Cd} {args : List Cn}
+        → AtData G s j t c args
+        → c.holds ≡ None
+        → PatFound G (pattern p (is_bare s j)) t []
+    -- C p
+    holding_binds : {G : Sc} {p : Place} {s j : ℕ} {t held : Cn} {c : Cd} {args ts : List Cn} {q : Pt}
+        → AtData G s j t c args
+        → c.holds ≡ Some held
+        → PatFound G q (held_at args held) ts
+        → PatFound G (pattern p (is_holding s j q)) t ts
+    -- {n = p, ..}
+    fields_bind : {G : Sc} {p : Place} {fs : Pfs} {t r : Cn} {ts : List Cn}
+        → normal_of t ≡ Some (record_of r)
+        → PatFieldsFound G fs (ordered_pieces r) [] ts
+        → PatFound G (pattern p (has_fields fs false)) t ts
+    -- {n = p, ...}
+    more_fields_bind : {G : Sc} {p : Place} {fs : Pfs} {t r : Cn} {rest ts : List Cn}
+        → normal_of t ≡ Some (record_of r)
+        → PatFieldsFound G fs (ordered_pieces r) rest ts
+        → PatFound G (pattern p (has_fields fs true)) t ts
+    -- (p : t)
+    annotated_binds : {G : Sc} {p : Place} {q : Pt} {t u : Cn} {ts : List Cn}
+        → HasKind G u types
+        → Alike t u
+        → PatFound G q u ts
+        → PatFound G (pattern p (annotated q u)) t ts
 
   -- fields among the pieces of a row, and the pieces that are left
   pub data PatFieldsFound : Sc → Pfs → List Cn → List Cn → List Cn → Type 0 where
     none_bind : {G : Sc} {ps : List Cn} → PatFieldsFound G no_pat_fields ps ps []
-    one_binds : {G : Sc} {p : Place} {n m v : Cn} {q : Pt} {fs : Pfs} {ps qs rs ts us : List Cn} → HasKind G n names → normal_of n ≡ Some m → field_of m ps ≡ Some (v, qs) → PatFound G q v ts → PatFieldsFound G fs qs rs us → PatFieldsFound G (pat_field p n q fs) ps rs (us ++ ts)
+    -- n = p
+    one_binds : {G : Sc} {p : Place} {n m v : Cn} {q : Pt} {fs : Pfs} {ps qs rs ts us : List Cn}
+        → HasKind G n names
+        → normal_of n ≡ Some m
+        → field_of m ps ≡ Some (v, qs)
+        → PatFound G q v ts
+        → PatFieldsFound G fs qs rs us
+        → PatFieldsFound G (pat_field p n q fs) ps rs (us ++ ts)
 
 mutual
   -- what is at fault in a pattern at a type
   pub data PatFault : Sc → Pt → Cn → Fault → Type 0 where
-    bad_kind : {G : Sc} {p : Place} {x : ℕ} {w : Bool} {t u : Cn} {f : Fault} → LacksKind G p u types f → PatFault G (pattern p (binds x w u)) t f
-    other_type : {G : Sc} {p : Place} {x : ℕ} {w : Bool} {t u m n : Cn} → HasKind G u types → Differ t u m n → PatFault G (pattern p (binds x w u)) t (mismatch p m n)
-    large_type : {G : Sc} {p : Place} {x : ℕ} {w : Bool} {t u : Cn} → HasKind G u types → Large t u → PatFault G (pattern p (binds x w u)) t (too_large p)
-    no_number : {G : Sc} {p : Place} {z : ℤ} {t m n : Cn} → Differ t int_type m n → PatFault G (pattern p (is_number z)) t (mismatch p m n)
-    large_number : {G : Sc} {p : Place} {z : ℤ} {t : Cn} → Large t int_type → PatFault G (pattern p (is_number z)) t (too_large p)
-    no_text : {G : Sc} {p : Place} {w : List ℕ} {t m n : Cn} → Differ t string_type m n → PatFault G (pattern p (is_text w)) t (mismatch p m n)
-    large_text : {G : Sc} {p : Place} {w : List ℕ} {t : Cn} → Large t string_type → PatFault G (pattern p (is_text w)) t (too_large p)
+    -- x : t
+    bad_kind : {G : Sc} {p : Place} {x : ℕ} {w : Bool} {t u : Cn} {f : Fault}
+        → LacksKind G p u types f
+        → PatFault G (pattern p (binds x w u)) t f
+    -- x : t
+    other_type : {G : Sc} {p : Place} {x : ℕ} {w : Bool} {t u m n : Cn}
+        → HasKind G u types
+        → Differ t u m n
+        → PatFault G (pattern p (binds x w u)) t (mismatch p G.called m n)
+    -- x : t
+    large_type : {G : Sc} {p : Place} {x : ℕ} {w : Bool} {t u : Cn}
+        → HasKind G u types
+        → Large t u
+        → PatFault G (pattern p (binds x w u)) t (too_large p)
+    -- 1
+    no_number : {G : Sc} {p : Place} {z : ℤ} {t m n : Cn}
+        → Differ t int_type m n
+        → PatFault G (pattern p (is_number z)) t (mismatch p G.called m n)
+    -- 1
+    large_number : {G : Sc} {p : Place} {z : ℤ} {t : Cn}
+        → Large t int_type
+        → PatFault G (pattern p (is_number z)) t (too_large p)
+    -- "a"
+    no_text : {G : Sc} {p : Place} {w : List ℕ} {t m n : Cn}
+        → Differ t string_type m n
+        → PatFault G (pattern p (is_text w)) t (mismatch p G.called m n)
+    -- "a"
+    large_text : {G : Sc} {p : Place} {w : List ℕ} {t : Cn}
+        → Large t string_type
+        → PatFault G (pattern p (is_text w)) t (too_large p)
     -- a constructor: unknown, of another datatype, or alone where it holds something and the other way round
-    no_bare : {G : Sc} {p : Place} {s j : ℕ} {t : Cn} → ((d : Dt) (c : Cd) → Constructs G s j d c → ⊥) → PatFault G (pattern p (is_bare s j)) t (unbound p (a_constructor s j))
-    no_holding : {G : Sc} {p : Place} {s j : ℕ} {q : Pt} {t : Cn} → ((d : Dt) (c : Cd) → Constructs G s j d c → ⊥) → PatFault G (pattern p (is_holding s j q)) t (unbound p (a_constructor s j))
-    other_bare : {G : Sc} {p : Place} {s j : ℕ} {t n : Cn} {d : Dt} {c : Cd} → Constructs G s j d c → normal_of t ≡ Some n → ((args : List Cn) → seen G.datatypes n ≡ a_datatype d args → ⊥) → PatFault G (pattern p (is_bare s j)) t (mismatch p n (at_types (basic s) (untold d.parameters)))
-    other_holding : {G : Sc} {p : Place} {s j : ℕ} {q : Pt} {t n : Cn} {d : Dt} {c : Cd} → Constructs G s j d c → normal_of t ≡ Some n → ((args : List Cn) → seen G.datatypes n ≡ a_datatype d args → ⊥) → PatFault G (pattern p (is_holding s j q)) t (mismatch p n (at_types (basic s) (untold d.parameters)))
-    large_bare : {G : Sc} {p : Place} {s j : ℕ} {t : Cn} → normal_of t ≡ None → PatFault G (pattern p (is_bare s j)) t (too_large p)
-    large_holding : {G : Sc} {p : Place} {s j : ℕ} {q : Pt} {t : Cn} → normal_of t ≡ None → PatFault G (pattern p (is_holding s j q)) t (too_large p)
-    holds_more : {G : Sc} {p : Place} {s j : ℕ} {t n held m : Cn} {c : Cd} {args : List Cn} → AtData G s j t c args → c.holds ≡ Some held → normal_of t ≡ Some n → normal_of (held_at args held) ≡ Some m → PatFault G (pattern p (is_bare s j)) t (mismatch p n (arrow m n))
-    holds_too_much : {G : Sc} {p : Place} {s j : ℕ} {t held : Cn} {c : Cd} {args : List Cn} → AtData G s j t c args → c.holds ≡ Some held → normal_of (held_at args held) ≡ None → PatFault G (pattern p (is_bare s j)) t (too_large p)
-    holds_less : {G : Sc} {p : Place} {s j : ℕ} {q : Pt} {t n : Cn} {c : Cd} {args : List Cn} → AtData G s j t c args → c.holds ≡ None → normal_of t ≡ Some n → PatFault G (pattern p (is_holding s j q)) t (mismatch p (arrow unit_con n) n)
-    in_held : {G : Sc} {p : Place} {s j : ℕ} {q : Pt} {t held : Cn} {c : Cd} {args : List Cn} {f : Fault} → AtData G s j t c args → c.holds ≡ Some held → PatFault G q (held_at args held) f → PatFault G (pattern p (is_holding s j q)) t f
+    -- C
+    no_bare : {G : Sc} {p : Place} {s j : ℕ} {t : Cn}
+        → ((d : Dt) (c : Cd) → Constructs G s j d c → ⊥)
+        → PatFault G (pattern p (is_bare s j)) t (unbound p (a_constructor s j))
+    -- C p
+    no_holding : {G : Sc} {p : Place} {s j : ℕ} {q : Pt} {t : Cn}
+        → ((d : Dt) (c : Cd) → Constructs G s j d c → ⊥)
+        → PatFault G (pattern p (is_holding s j q)) t (unbound p (a_constructor s j))
+    -- C
+    other_bare : {G : Sc} {p : Place} {s j : ℕ} {t n : Cn} {d : Dt} {c : Cd}
+        → Constructs G s j d c
+        → normal_of t ≡ Some n
+        → ((args : List Cn) → seen G.datatypes n ≡ a_datatype d args → ⊥)
+        → PatFault G (pattern p (is_bare s j)) t (mismatch p G.called n (at_types (basic s) (untold (arity d))))
+    -- C p
+    other_holding : {G : Sc} {p : Place} {s j : ℕ} {q : Pt} {t n : Cn} {d : Dt} {c : Cd}
+        → Constructs G s j d c
+        → normal_of t ≡ Some n
+        → ((args : List Cn) → seen G.datatypes n ≡ a_datatype d args → ⊥)
+        → PatFault G (pattern p (is_holding s j q)) t (mismatch p G.called n (at_types (basic s)
+        (untold (arity d))))
+    -- C
+    large_bare : {G : Sc} {p : Place} {s j : ℕ} {t : Cn}
+        → normal_of t ≡ None
+        → PatFault G (pattern p (is_bare s j)) t (too_large p)
+    -- C p
+    large_holding : {G : Sc} {p : Place} {s j : ℕ} {q : Pt} {t : Cn}
+        → normal_of t ≡ None
+        → PatFault G (pattern p (is_holding s j q)) t (too_large p)
+    -- C, which holds something
+    holds_more : {G : Sc} {p : Place} {s j : ℕ} {t n held m : Cn} {c : Cd} {args : List Cn}
+        → AtData G s j t c args
+        → c.holds ≡ Some held
+        → normal_of t ≡ Some n
+        → normal_of (held_at args held) ≡ Some m
+        → PatFault G (pattern p (is_bare s j)) t (mismatch p G.called n (arrow m n))
+    -- C, which holds something
+    holds_too_much : {G : Sc} {p : Place} {s j : ℕ} {t held : Cn} {c : Cd} {args : List Cn}
+        → AtData G s j t c args
+        → c.holds ≡ Some held
+        → normal_of (held_at args held) ≡ None
+        → PatFault G (pattern p (is_bare s j)) t (too_large p)
+    -- C p, where C holds nothing
+    holds_less : {G : Sc} {p : Place} {s j : ℕ} {q : Pt} {t n : Cn} {c : Cd} {args : List Cn}
+        → AtData G s j t c args
+        → c.holds ≡ None
+        → normal_of t ≡ Some n
+        → PatFault G (pattern p (is_holding s j q)) t (mismatch p G.called (arrow unit_con n) n)
+    -- C p
+    in_held : {G : Sc} {p : Place} {s j : ℕ} {q : Pt} {t held : Cn} {c : Cd} {args : List Cn} {f : Fault}
+        → AtData G s j t c args
+        → c.holds ≡ Some held
+        → PatFault G q (held_at args held) f
+        → PatFault G (pattern p (is_holding s j q)) t f
     -- a record: another type, a field's fault, or fields that are left, where none should be
-    no_record : {G : Sc} {p : Place} {fs : Pfs} {b : Bool} {t n : Cn} → normal_of t ≡ Some n → ((r : Cn) → n ≡ record_of r → ⊥) → PatFault G (pattern p (has_fields fs b)) t (mismatch p n (record_of (type_row no_pairs)))
-    large_record : {G : Sc} {p : Place} {fs : Pfs} {b : Bool} {t : Cn} → normal_of t ≡ None → PatFault G (pattern p (has_fields fs b)) t (too_large p)
-    in_fields : {G : Sc} {p : Place} {fs : Pfs} {b : Bool} {t r : Cn} {f : Fault} → normal_of t ≡ Some (record_of r) → PatFieldsFault G fs (ordered_pieces r) f → PatFault G (pattern p (has_fields fs b)) t f
-    fields_left : {G : Sc} {p : Place} {fs : Pfs} {t r c : Cn} {rest ts : List Cn} → normal_of t ≡ Some (record_of r) → PatFieldsFound G fs (ordered_pieces r) (c ∷ rest) ts → PatFault G (pattern p (has_fields fs false)) t (mismatch p (left_over (c ∷ rest)) unit_type)
+    -- {n = p, ..}
+    no_record : {G : Sc} {p : Place} {fs : Pfs} {b : Bool} {t n : Cn}
+        → normal_of t ≡ Some n
+        → ((r : Cn) → n ≡ record_of r → ⊥)
+        → PatFault G (pattern p (has_fields fs b)) t (mismatch p G.called n (record_of (type_row no_pairs)))
+    -- {n = p, ..}
+    large_record : {G : Sc} {p : Place} {fs : Pfs} {b : Bool} {t : Cn}
+        → normal_of t ≡ None
+        → PatFault G (pattern p (has_fields fs b)) t (too_large p)
+    -- {n = p, ..}
+    in_fields : {G : Sc} {p : Place} {fs : Pfs} {b : Bool} {t r : Cn} {f : Fault}
+        → normal_of t ≡ Some (record_of r)
+        → PatFieldsFault G fs (ordered_pieces r) f
+        → PatFault G (pattern p (has_fields fs b)) t f
+    -- {n = p}
+    fields_left : {G : Sc} {p : Place} {fs : Pfs} {t r c : Cn} {rest ts : List Cn}
+        → normal_of t ≡ Some (record_of r)
+        → PatFieldsFound G fs (ordered_pieces r) (c ∷ rest) ts
+        → PatFault G (pattern p (has_fields fs false)) t (mismatch p G.called (left_over (c ∷ rest)) unit_type)
     -- (p : t)
-    bad_annotation : {G : Sc} {p : Place} {q : Pt} {t u : Cn} {f : Fault} → LacksKind G p u types f → PatFault G (pattern p (annotated q u)) t f
-    other_annotation : {G : Sc} {p : Place} {q : Pt} {t u m n : Cn} → HasKind G u types → Differ t u m n → PatFault G (pattern p (annotated q u)) t (mismatch p m n)
-    large_annotation : {G : Sc} {p : Place} {q : Pt} {t u : Cn} → HasKind G u types → Large t u → PatFault G (pattern p (annotated q u)) t (too_large p)
-    in_annotated : {G : Sc} {p : Place} {q : Pt} {t u : Cn} {f : Fault} → HasKind G u types → PatFault G q u f → PatFault G (pattern p (annotated q u)) t f
+    bad_annotation : {G : Sc} {p : Place} {q : Pt} {t u : Cn} {f : Fault}
+        → LacksKind G p u types f
+        → PatFault G (pattern p (annotated q u)) t f
+    -- (p : t)
+    other_annotation : {G : Sc} {p : Place} {q : Pt} {t u m n : Cn}
+        → HasKind G u types
+        → Differ t u m n
+        → PatFault G (pattern p (annotated q u)) t (mismatch p G.called m n)
+    -- (p : t)
+    large_annotation : {G : Sc} {p : Place} {q : Pt} {t u : Cn}
+        → HasKind G u types
+        → Large t u
+        → PatFault G (pattern p (annotated q u)) t (too_large p)
+    -- (p : t)
+    in_annotated : {G : Sc} {p : Place} {q : Pt} {t u : Cn} {f : Fault}
+        → HasKind G u types
+        → PatFault G q u f
+        → PatFault G (pattern p (annotated q u)) t f
 
   pub data PatFieldsFault : Sc → Pfs → List Cn → Fault → Type 0 where
-    bad_name : {G : Sc} {p : Place} {n : Cn} {q : Pt} {fs : Pfs} {ps : List Cn} {f : Fault} → LacksKind G p n names f → PatFieldsFault G (pat_field p n q fs) ps f
-    large_name : {G : Sc} {p : Place} {n : Cn} {q : Pt} {fs : Pfs} {ps : List Cn} → normal_of n ≡ None → PatFieldsFault G (pat_field p n q fs) ps (too_large p)
-    no_field : {G : Sc} {p : Place} {n m : Cn} {q : Pt} {fs : Pfs} {ps : List Cn} → HasKind G n names → normal_of n ≡ Some m → field_of m ps ≡ None → PatFieldsFault G (pat_field p n q fs) ps (mismatch p (left_over ps) (record_of (one_field m unit_con)))
-    in_field : {G : Sc} {p : Place} {n m v : Cn} {q : Pt} {fs : Pfs} {ps qs : List Cn} {f : Fault} → HasKind G n names → normal_of n ≡ Some m → field_of m ps ≡ Some (v, qs) → PatFault G q v f → PatFieldsFault G (pat_field p n q fs) ps f
-    in_later_field : {G : Sc} {p : Place} {n m v : Cn} {q : Pt} {fs : Pfs} {ps qs : List Cn} {f : Fault} → HasKind G n names → normal_of n ≡ Some m → field_of m ps ≡ Some (v, qs) → PatFieldsFault G fs qs f → PatFieldsFault G (pat_field p n q fs) ps f
+    -- n = p
+    bad_name : {G : Sc} {p : Place} {n : Cn} {q : Pt} {fs : Pfs} {ps : List Cn} {f : Fault}
+        → LacksKind G p n names f
+        → PatFieldsFault G (pat_field p n q fs) ps f
+    -- n = p
+    large_name : {G : Sc} {p : Place} {n : Cn} {q : Pt} {fs : Pfs} {ps : List Cn}
+        → normal_of n ≡ None
+        → PatFieldsFault G (pat_field p n q fs) ps (too_large p)
+    -- n = p
+    no_field : {G : Sc} {p : Place} {n m : Cn} {q : Pt} {fs : Pfs} {ps : List Cn}
+        → HasKind G n names
+        → normal_of n ≡ Some m
+        → field_of m ps ≡ None
+        → PatFieldsFault G (pat_field p n q fs) ps (mismatch p G.called (left_over ps) (record_of
+        (one_field m unit_con)))
+    -- n = p
+    in_field : {G : Sc} {p : Place} {n m v : Cn} {q : Pt} {fs : Pfs} {ps qs : List Cn} {f : Fault}
+        → HasKind G n names
+        → normal_of n ≡ Some m
+        → field_of m ps ≡ Some (v, qs)
+        → PatFault G q v f
+        → PatFieldsFault G (pat_field p n q fs) ps f
+    in_later_field : {G : Sc} {p : Place} {n m v : Cn} {q : Pt} {fs : Pfs} {ps qs : List Cn} {f : Fault}
+        → HasKind G n names
+        → normal_of n ≡ Some m
+        → field_of m ps ≡ Some (v, qs)
+        → PatFieldsFault G fs qs f
+        → PatFieldsFault G (pat_field p n q fs) ps f

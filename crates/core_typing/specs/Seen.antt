@@ -2,7 +2,7 @@
 use Rattle.std.specs.Prelude.{ℕ, ◌==◌, List, [], ◌∷◌, ◌++◌, length, Some, None, if◌then◌else◌}
 use Rattle.con_terms.specs.Trees.{Cn, basic, record_of, app, name, row, cat, Prs, no_pairs, pair}
 use Rattle.core_terms.specs.Names.{int_name, string_name}
-use Rattle.core_terms.specs.Trees.{Dt}
+use Rattle.core_terms.specs.Trees.{Dt, arity}
 use Rattle.core_terms.specs.Datatypes.{datatype_of}
 
 pub data Seen : Type 0 where
@@ -38,7 +38,7 @@ named_fields _ = []
 
 -- a datatype at arguments, where it has as many as it takes
 abbrev pub seen_data : Dt → List Cn → Seen
-seen_data d args = if length args == d.parameters then a_datatype d args else nothing_more
+seen_data d args = if length args == arity d then a_datatype d args else nothing_more
 
 -- a basic type at arguments
 abbrev pub seen_basic : List Dt → ℕ → List Cn → Seen

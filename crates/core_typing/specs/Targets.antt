@@ -2,7 +2,7 @@
 use Rattle.std.specs.Prelude.{ℕ, Bool, true, false, List, [], ◌∷◌, ◌++◌, Option, Some, None}
 use Rattle.core_terms.specs.declared.markup.AttrName.{AttrName}
 use Rattle.core_terms.specs.declared.markup.AttrName.TheVariants as attr
-use Rattle.core_terms.specs.Trees.{Ex, node, Fo, bound, top, foreign, basis, fold_over, number, text, built, fn, fn_con, fn_guard, call, let_in, case_of, ascribed, fields_of, select, concat, without, without_row, folder, element, Its, no_items, with_term, with_con, with_guard, Nms, no_named, named, Los, no_locals, local_val, local_rec, Brs, no_branches, branch, Fds, no_fields, field, El, tagged, Ats, no_attributes, attribute, Xs, no_nodes, a_node}
+use Rattle.core_terms.specs.Trees.{Ex, node, Fo, bound, top, foreign, basis, fold_over, number, text, built, fn, fn_con, fn_guard, call, let_in, case_of, ascribed, fields_of, select, concat, without, without_row, folder, element, literal, sql, Its, no_items, with_term, with_con, with_guard, Nms, no_named, named, Los, no_locals, local_val, local_rec, Brs, no_branches, branch, Fds, no_fields, field, El, tagged, Ats, no_attributes, attribute, Xs, no_nodes, a_node, Exs, no_exps, an_exp}
 
 -- a value that is called by POST, where the flag is true, or by GET
 abbrev pub Target : Type 0
@@ -15,7 +15,7 @@ head_of _ = None
 
 abbrev pub callee : Ex → Option ℕ
 callee (node p a (top i)) = Some i
-callee (node p a (call f is)) = head_of f
+callee (node p a (call f s is)) = head_of f
 callee _ = None
 
 abbrev pub target_if : Bool → Option ℕ → List Target
@@ -40,10 +40,10 @@ abbrev mutual
   form_targets (number z) = []
   form_targets (text t) = []
   form_targets (built s j) = []
-  form_targets (fn p w t e) = targets e
+  form_targets (fn p t e) = targets e
   form_targets (fn_con x i w k e) = targets e
   form_targets (fn_guard c d e) = targets e
-  form_targets (call f is) = targets f ++ items_targets is
+  form_targets (call f s is) = targets f ++ items_targets is
   form_targets (let_in ls e) = locals_targets ls ++ targets e
   form_targets (case_of e p q d bs) = targets e ++ targets d ++ branches_targets bs
   form_targets (ascribed e t) = targets e
@@ -54,11 +54,13 @@ abbrev mutual
   form_targets (without_row e c) = targets e
   form_targets (folder k ps) = []
   form_targets (element m) = element_targets m
+  form_targets (literal c u xs) = nodes_targets xs
+  form_targets (sql k es) = exps_targets es
 
   pub items_targets : Its → List Target
   items_targets no_items = []
   items_targets (with_term e is) = targets e ++ items_targets is
-  items_targets (with_con p a c is) = items_targets is
+  items_targets (with_con p o c is) = items_targets is
   items_targets (with_guard p a is) = items_targets is
 
   pub named_targets : Nms → List Target
@@ -87,4 +89,8 @@ abbrev mutual
 
   pub nodes_targets : Xs → List Target
   nodes_targets no_nodes = []
-  nodes_targets (a_node e xs) = targets e ++ nodes_targets xs
+  nodes_targets (a_node c e xs) = targets e ++ nodes_targets xs
+
+  pub exps_targets : Exs → List Target
+  exps_targets no_exps = []
+  exps_targets (an_exp e es) = targets e ++ exps_targets es

@@ -1,12 +1,15 @@
--- Which fault a program tells: of all premises that fail, in the declarations and in the terms, the first in text order, and the inner first where two begin at one byte.
+-- Which fault a program tells: of all premises that fail, in the declarations and in the terms, the first in text
+-- order, and the inner first where two begin at one byte.
 use Rattle.std.specs.Prelude.{◌≡◌, ℕ, ◌<◌, Bool, List, [], ◌∷◌, ◌++◌, Option, Some, Ok, slice_get}
 use Rattle.std.specs.List.{Contains}
 use Rattle.con_terms.specs.Trees.{Kd, types, Cn}
 use Rattle.con_terms.specs.declared.place.Place.{Place}
 use Rattle.link_router.specs.Calls.{Ent}
+use Rattle.core_terms.specs.declared.exp.Sigil.{Sigil}
+use Rattle.core_terms.specs.declared.exp.ConOrigin.{ConOrigin}
 use Rattle.core_terms.specs.declared.markup.AttrName.{AttrName}
 use Rattle.core_terms.specs.declared.markup.TagName.{TagName}
-use Rattle.core_terms.specs.Trees.{Pt, Ex, node, fn, fn_con, fn_guard, call, let_in, case_of, ascribed, fields_of, select, concat, without, without_row, element, Its, with_term, with_con, with_guard, Nms, named, Los, no_locals, local_val, local_rec, Brs, branch, Fds, field, tagged, Ats, attribute, Xs, a_node, De, val, vals, con_is, datatype, Cd, Dt, Pg}
+use Rattle.core_terms.specs.Trees.{Pt, Ex, node, fn, fn_con, fn_guard, call, let_in, case_of, ascribed, fields_of, select, concat, without, without_row, element, literal, sql, Its, with_term, with_con, with_guard, Nms, named, Los, no_locals, local_val, local_rec, Brs, branch, Fds, field, tagged, Ats, attribute, Xs, a_node, Exs, an_exp, Sk, Th, De, val, vals, con_is, datatype, thing, Cd, Dt, Pg}
 use Rattle.core_typing.specs.Scopes.{Sc, under, under_con, under_guard}
 use Rattle.core_typing.specs.Typed.{named_types}
 use Rattle.core_typing.specs.Judged.{HasKind, LacksKind, guard_forms}
@@ -20,114 +23,282 @@ use Rattle.core_typing.specs.Entries.{IsEntry}
 -- a term among items, fields, branches, attributes, nodes
 pub data InItems : Its → Ex → Type 0 where
   this_item : {e : Ex} {is : Its} → InItems (with_term e is) e
-  past_item : {d e : Ex} {is : Its} → InItems is e → InItems (with_term d is) e
-  past_con : {p : Place} {a : Bool} {c : Cn} {e : Ex} {is : Its} → InItems is e → InItems (with_con p a c is) e
-  past_guard : {p : Place} {a : Bool} {e : Ex} {is : Its} → InItems is e → InItems (with_guard p a is) e
+  past_item : {d e : Ex} {is : Its}
+      → InItems is e
+      → InItems (with_term d is) e
+  past_con : {p : Place} {o : ConOrigin} {c : Cn} {e : Ex} {is : Its}
+      → InItems is e
+      → InItems (with_con p o c is) e
+  past_guard : {p : Place} {a : Bool} {e : Ex} {is : Its}
+      → InItems is e
+      → InItems (with_guard p a is) e
 
 pub data InFields : Fds → Ex → Type 0 where
   this_field : {p : Place} {n : Cn} {e : Ex} {fs : Fds} → InFields (field p n e fs) e
-  past_field : {p : Place} {n : Cn} {d e : Ex} {fs : Fds} → InFields fs e → InFields (field p n d fs) e
+  past_field : {p : Place} {n : Cn} {d e : Ex} {fs : Fds}
+      → InFields fs e
+      → InFields (field p n d fs) e
 
 pub data InBranches : Brs → Pt → Ex → Type 0 where
   this_branch : {p : Place} {q : Pt} {e : Ex} {bs : Brs} → InBranches (branch p q e bs) q e
-  past_branch : {p : Place} {q r : Pt} {d e : Ex} {bs : Brs} → InBranches bs q e → InBranches (branch p r d bs) q e
+  past_branch : {p : Place} {q r : Pt} {d e : Ex} {bs : Brs}
+      → InBranches bs q e
+      → InBranches (branch p r d bs) q e
 
 pub data InNamed : Nms → Ex → Type 0 where
   this_name : {p : Place} {x : ℕ} {w : Bool} {t : Cn} {e : Ex} {ns : Nms} → InNamed (named p x w t e ns) e
-  past_name : {p : Place} {x : ℕ} {w : Bool} {t : Cn} {d e : Ex} {ns : Nms} → InNamed ns e → InNamed (named p x w t d ns) e
+  past_name : {p : Place} {x : ℕ} {w : Bool} {t : Cn} {d e : Ex} {ns : Nms}
+      → InNamed ns e
+      → InNamed (named p x w t d ns) e
 
 pub data InNodes : Xs → Ex → Type 0 where
-  this_node : {e : Ex} {xs : Xs} → InNodes (a_node e xs) e
-  past_node : {d e : Ex} {xs : Xs} → InNodes xs e → InNodes (a_node d xs) e
+  this_node : {b : Cn} {e : Ex} {xs : Xs} → InNodes (a_node b e xs) e
+  past_node : {b : Cn} {d e : Ex} {xs : Xs}
+      → InNodes xs e
+      → InNodes (a_node b d xs) e
 
--- a term of the declarations of a let, or what the scope behind them is for; scopes have the types that stand at the names
+pub data InExps : Exs → Ex → Type 0 where
+  this_exp : {e : Ex} {es : Exs} → InExps (an_exp e es) e
+  past_exp : {d e : Ex} {es : Exs}
+      → InExps es e
+      → InExps (an_exp d es) e
+
+-- a term of the declarations of a let, or what the scope behind them is for; scopes have the types that stand at
+-- the names
 pub data InLocals : Sc → Los → Sc → Ex → Type 0 where
-  this_val : {G : Sc} {p : Place} {x : ℕ} {w : Bool} {t : Cn} {e : Ex} {ls : Los} → InLocals G (local_val p x w t e ls) G e
-  past_val : {G H : Sc} {p : Place} {x : ℕ} {w : Bool} {t : Cn} {d e : Ex} {ls : Los} → InLocals (under (t ∷ []) G) ls H e → InLocals G (local_val p x w t d ls) H e
-  this_rec : {G : Sc} {ns : Nms} {e : Ex} {ls : Los} → InNamed ns e → InLocals G (local_rec ns ls) (under (named_types ns) G) e
-  past_rec : {G H : Sc} {ns : Nms} {e : Ex} {ls : Los} → InLocals (under (named_types ns) G) ls H e → InLocals G (local_rec ns ls) H e
+  this_val : {G : Sc} {p : Place} {x : ℕ} {w : Bool} {t : Cn} {e : Ex} {ls : Los}
+      → InLocals G (local_val p x w t e ls) G e
+  past_val : {G H : Sc} {p : Place} {x : ℕ} {w : Bool} {t : Cn} {d e : Ex} {ls : Los}
+      → InLocals (under (t ∷ []) G) ls H e
+      → InLocals G (local_val p x w t d ls) H e
+  this_rec : {G : Sc} {ns : Nms} {e : Ex} {ls : Los}
+      → InNamed ns e
+      → InLocals G (local_rec ns ls) (under (named_types ns) G) e
+  past_rec : {G H : Sc} {ns : Nms} {e : Ex} {ls : Los}
+      → InLocals (under (named_types ns) G) ls H e
+      → InLocals G (local_rec ns ls) H e
 
 pub data Behind : Sc → Los → Sc → Type 0 where
   behind_none : {G : Sc} → Behind G no_locals G
-  behind_val : {G H : Sc} {p : Place} {x : ℕ} {w : Bool} {t : Cn} {e : Ex} {ls : Los} → Behind (under (t ∷ []) G) ls H → Behind G (local_val p x w t e ls) H
-  behind_rec : {G H : Sc} {ns : Nms} {ls : Los} → Behind (under (named_types ns) G) ls H → Behind G (local_rec ns ls) H
+  behind_val : {G H : Sc} {p : Place} {x : ℕ} {w : Bool} {t : Cn} {e : Ex} {ls : Los}
+      → Behind (under (t ∷ []) G) ls H
+      → Behind G (local_val p x w t e ls) H
+  behind_rec : {G H : Sc} {ns : Nms} {ls : Los}
+      → Behind (under (named_types ns) G) ls H
+      → Behind G (local_rec ns ls) H
 
 -- an attribute's term, also where it is a call that is a link
 pub data InAttributes : Ats → Ex → Type 0 where
   this_attribute : {p : Place} {n : AttrName} {e : Ex} {as' : Ats} → InAttributes (attribute p n e as') e
-  past_attribute : {p : Place} {n : AttrName} {d e : Ex} {as' : Ats} → InAttributes as' e → InAttributes (attribute p n d as') e
+  past_attribute : {p : Place} {n : AttrName} {d e : Ex} {as' : Ats}
+      → InAttributes as' e
+      → InAttributes (attribute p n d as') e
 
 -- a part of a node, with its scope. A part whose scope depends on another part that has no type is none
 pub data Sub : Sc → Ex → Sc → Ex → Type 0 where
-  fn_body : {G : Sc} {p : Place} {a w : Bool} {q : Pt} {t : Cn} {ts : List Cn} {e : Ex} → HasKind G t types → PatFound G q t ts → Sub G (node p a (fn q w t e)) (under ts G) e
-  con_body : {G : Sc} {p : Place} {a i w : Bool} {x : ℕ} {k : Kd} {e : Ex} → Sub G (node p a (fn_con x i w k e)) (under_con k G) e
-  guard_body : {G : Sc} {p : Place} {a : Bool} {c d m n : Cn} {e : Ex} → guard_forms G.kinds c d ≡ Ok (m, n) → Sub G (node p a (fn_guard c d e)) (under_guard m n G) e
-  function : {G : Sc} {p : Place} {a : Bool} {e : Ex} {is : Its} → Sub G (node p a (call e is)) G e
-  argument : {G : Sc} {p : Place} {a : Bool} {f e : Ex} {is : Its} → InItems is e → Sub G (node p a (call f is)) G e
-  local_term : {G H : Sc} {p : Place} {a : Bool} {ls : Los} {d e : Ex} → InLocals G ls H e → Sub G (node p a (let_in ls d)) H e
-  let_body : {G H : Sc} {p : Place} {a : Bool} {ls : Los} {e : Ex} → Behind G ls H → Sub G (node p a (let_in ls e)) H e
-  what_is_matched : {G : Sc} {p q : Place} {a : Bool} {e b : Ex} {r : Pt} {bs : Brs} → Sub G (node p a (case_of e q r b bs)) G e
-  first_branch : {G : Sc} {p q : Place} {a : Bool} {e b : Ex} {r : Pt} {bs : Brs} {t : Cn} {ts : List Cn} → Found G e t → PatFound G r t ts → Sub G (node p a (case_of e q r b bs)) (under ts G) b
-  later_branch : {G : Sc} {p q : Place} {a : Bool} {e b c : Ex} {r s : Pt} {bs : Brs} {t : Cn} {ts : List Cn} → Found G e t → InBranches bs s c → PatFound G s t ts → Sub G (node p a (case_of e q r b bs)) (under ts G) c
+  -- fn p => e
+  fn_body : {G : Sc} {p : Place} {a : Bool} {q : Pt} {t : Cn} {ts : List Cn} {e : Ex}
+      → HasKind G t types
+      → PatFound G q t ts
+      → Sub G (node p a (fn q t e)) (under ts G) e
+  -- fn [x :: k] => e
+  con_body : {G : Sc} {p : Place} {a i w : Bool} {x : ℕ} {k : Kd} {e : Ex}
+      → Sub G (node p a (fn_con x i w k e)) (under_con x k G) e
+  -- fn [c ~ d] => e
+  guard_body : {G : Sc} {p : Place} {a : Bool} {c d m n : Cn} {e : Ex}
+      → guard_forms G.kinds c d ≡ Ok (m, n)
+      → Sub G (node p a (fn_guard c d e)) (under_guard m n G) e
+  -- f e
+  function : {G : Sc} {p : Place} {a : Bool} {e : Ex} {s : Sigil} {is : Its} → Sub G (node p a (call e s is)) G e
+  -- f e
+  argument : {G : Sc} {p : Place} {a : Bool} {f e : Ex} {s : Sigil} {is : Its}
+      → InItems is e
+      → Sub G (node p a (call f s is)) G e
+  -- let val x = e in ..
+  local_term : {G H : Sc} {p : Place} {a : Bool} {ls : Los} {d e : Ex}
+      → InLocals G ls H e
+      → Sub G (node p a (let_in ls d)) H e
+  -- let d in e end
+  let_body : {G H : Sc} {p : Place} {a : Bool} {ls : Los} {e : Ex}
+      → Behind G ls H
+      → Sub G (node p a (let_in ls e)) H e
+  -- case e of ..
+  what_is_matched : {G : Sc} {p q : Place} {a : Bool} {e b : Ex} {r : Pt} {bs : Brs}
+      → Sub G (node p a (case_of e q r b bs)) G e
+  -- case e of p => b | ..
+  first_branch : {G : Sc} {p q : Place} {a : Bool} {e b : Ex} {r : Pt} {bs : Brs} {t : Cn} {ts : List Cn}
+      → Found G e t
+      → PatFound G r t ts
+      → Sub G (node p a (case_of e q r b bs)) (under ts G) b
+  -- case e of .. | p => b ..
+  later_branch : {G : Sc} {p q : Place} {a : Bool} {e b c : Ex} {r s : Pt} {bs : Brs} {t : Cn} {ts : List Cn}
+      → Found G e t
+      → InBranches bs s c
+      → PatFound G s t ts
+      → Sub G (node p a (case_of e q r b bs)) (under ts G) c
+  -- (e : t)
   with_type : {G : Sc} {p : Place} {a : Bool} {e : Ex} {t : Cn} → Sub G (node p a (ascribed e t)) G e
-  field_term : {G : Sc} {p : Place} {a : Bool} {fs : Fds} {e : Ex} → InFields fs e → Sub G (node p a (fields_of fs)) G e
+  -- {n = e, ..}
+  field_term : {G : Sc} {p : Place} {a : Bool} {fs : Fds} {e : Ex}
+      → InFields fs e
+      → Sub G (node p a (fields_of fs)) G e
+  -- e.c
   selected_from : {G : Sc} {p : Place} {a : Bool} {e : Ex} {c : Cn} → Sub G (node p a (select e c)) G e
+  -- e ++ d
   left : {G : Sc} {p : Place} {a : Bool} {e d : Ex} → Sub G (node p a (concat e d)) G e
+  -- e ++ d
   right : {G : Sc} {p : Place} {a : Bool} {e d : Ex} → Sub G (node p a (concat e d)) G d
+  -- e -- c
   cut_from : {G : Sc} {p : Place} {a : Bool} {e : Ex} {c : Cn} → Sub G (node p a (without e c)) G e
+  -- e --- c
   row_cut_from : {G : Sc} {p : Place} {a : Bool} {e : Ex} {c : Cn} → Sub G (node p a (without_row e c)) G e
-  attribute_term : {G : Sc} {p : Place} {a : Bool} {g : TagName} {n : Option Cn} {c u : Cn} {as' : Ats} {xs : Xs} {e : Ex} → InAttributes as' e → Sub G (node p a (element (tagged g n c u as' xs))) G e
-  inner_node : {G : Sc} {p : Place} {a : Bool} {g : TagName} {n : Option Cn} {c u : Cn} {as' : Ats} {xs : Xs} {e : Ex} → InNodes xs e → Sub G (node p a (element (tagged g n c u as' xs))) G e
+  -- <a n={e} ..>
+  attribute_term : {G : Sc} {p : Place} {a : Bool} {g : TagName} {n : Option (Place × Cn)} {c u : Cn} {as' : Ats}
+      {xs : Xs} {e : Ex}
+      → InAttributes as' e
+      → Sub G (node p a (element (tagged g n c u as' xs))) G e
+  -- <a ..>x</a>
+  inner_node : {G : Sc} {p : Place} {a : Bool} {g : TagName} {n : Option (Place × Cn)} {c u : Cn} {as' : Ats}
+      {xs : Xs} {e : Ex}
+      → InNodes xs e
+      → Sub G (node p a (element (tagged g n c u as' xs))) G e
+  -- <xml>x</xml>
+  literal_node : {G : Sc} {p : Place} {a : Bool} {c u : Cn} {xs : Xs} {e : Ex}
+      → InNodes xs e
+      → Sub G (node p a (literal c u xs)) G e
+  -- (SELECT .. {[e]} ..)
+  sql_term : {G : Sc} {p : Place} {a : Bool} {k : Sk} {es : Exs} {e : Ex}
+      → InExps es e
+      → Sub G (node p a (sql k es)) G e
 
 -- a premise fails in a node or in a part of it
 pub data Fails : Sc → Ex → Fault → Type 0 where
-  itself : {G : Sc} {e : Ex} {f : Fault} → Own G e f → Fails G e f
-  inside : {G H : Sc} {e c : Ex} {f : Fault} → Sub G e H c → Fails H c f → Fails G e f
+  itself : {G : Sc} {e : Ex} {f : Fault}
+      → Own G e f
+      → Fails G e f
+  inside : {G H : Sc} {e c : Ex} {f : Fault}
+      → Sub G e H c
+      → Fails H c f
+      → Fails G e f
 
--- What a declaration has at fault itself: a kind, a term that hasn't the written type, a constructor of a name that stands before it.
+-- What a declaration has at fault itself: a kind, a term that hasn't the written type, a constructor of a name that
+-- stands before it.
 pub data DeclOwn : Pg → List Cn → List Dt → De → Fault → Type 0 where
-  type_kind : {p : Pg} {tops : List Cn} {ds : List Dt} {q : Place} {x : ℕ} {w : Bool} {t : Cn} {e : Ex} {f : Fault} → LacksKind (scope_with p tops ds) (type_place w q e) t types f → DeclOwn p tops ds (val q x w t e) f
-  other_type : {p : Pg} {tops : List Cn} {ds : List Dt} {q : Place} {x : ℕ} {w : Bool} {t u : Cn} {e : Ex} {f : Fault} → HasKind (scope_with p tops ds) t types → Found (scope_with p tops ds) e u → Wants (place_of e) t u f → DeclOwn p tops ds (val q x w t e) f
-  in_named : {p : Pg} {tops : List Cn} {ds : List Dt} {ns : Nms} {f : Fault} → NamedFault (scope_with p tops ds) (scope_with p (tops ++ value_types (named_values ns)) ds) ns f → DeclOwn p tops ds (vals ns) f
-  con_kind : {p : Pg} {tops : List Cn} {ds : List Dt} {q : Place} {x : ℕ} {w : Bool} {k : Kd} {c : Cn} {f : Fault} → LacksKind (scope_with p tops ds) q c k f → DeclOwn p tops ds (con_is q x w k c) f
-  held_kind : {p : Pg} {tops : List Cn} {ds : List Dt} {d : Dt} {c : Cd} {held : Cn} {f : Fault} → Contains d.constructors c → c.holds ≡ Some held → LacksKind (under_types d.parameters (scope_with p tops (ds ++ d ∷ []))) c.place held types f → DeclOwn p tops ds (datatype d) f
-  same_constructor : {p : Pg} {tops : List Cn} {ds : List Dt} {d : Dt} {i j : ℕ} {b c : Cd} → slice_get d.constructors i ≡ Some b → slice_get d.constructors j ≡ Some c → i < j → b.name ≡ c.name → DeclOwn p tops ds (datatype d) (redeclared c.place (twice_constructor c.name))
+  type_kind : {p : Pg} {tops : List Cn} {ds : List Dt} {q : Place} {path : List ℕ} {x : ℕ} {w : Bool} {t : Cn}
+      {e : Ex} {f : Fault}
+      → LacksKind (scope_with p tops ds) (type_place w q e) t types f
+      → DeclOwn p tops ds (val path q x w t e) f
+  other_type : {p : Pg} {tops : List Cn} {ds : List Dt} {q : Place} {path : List ℕ} {x : ℕ} {w : Bool} {t u : Cn}
+      {e : Ex} {f : Fault}
+      → HasKind (scope_with p tops ds) t types
+      → Found (scope_with p tops ds) e u
+      → Wants (scope_with p tops ds) (place_of e) t u f
+      → DeclOwn p tops ds (val path q x w t e) f
+  in_named : {p : Pg} {tops : List Cn} {ds : List Dt} {path : List ℕ} {ns : Nms} {f : Fault}
+      → NamedFault (scope_with p tops ds) (scope_with p (tops ++ value_types (named_values path ns)) ds) ns f
+      → DeclOwn p tops ds (vals path ns) f
+  con_kind : {p : Pg} {tops : List Cn} {ds : List Dt} {q : Place} {path : List ℕ} {x : ℕ} {w : Bool} {k : Kd}
+      {c : Cn} {f : Fault}
+      → LacksKind (scope_with p tops ds) q c k f
+      → DeclOwn p tops ds (con_is path q x w k c) f
+  held_kind : {p : Pg} {tops : List Cn} {ds : List Dt} {d : Dt} {c : Cd} {held : Cn} {f : Fault}
+      → Contains d.constructors c
+      → c.holds ≡ Some held
+      → LacksKind (under_types d.parameters (scope_with p tops (ds ++ d ∷ []))) c.place held types f
+      → DeclOwn p tops ds (datatype d) f
+  same_constructor : {p : Pg} {tops : List Cn} {ds : List Dt} {d : Dt} {i j : ℕ} {b c : Cd}
+      → slice_get d.constructors i ≡ Some b
+      → slice_get d.constructors j ≡ Some c
+      → i < j
+      → b.name ≡ c.name
+      → DeclOwn p tops ds (datatype d) (redeclared c.place (twice_constructor c.name))
 
 -- the terms of a declaration, with their scopes
 pub data DeclSub : Pg → List Cn → List Dt → De → Sc → Ex → Type 0 where
-  of_val : {p : Pg} {tops : List Cn} {ds : List Dt} {q : Place} {x : ℕ} {w : Bool} {t : Cn} {e : Ex} → DeclSub p tops ds (val q x w t e) (scope_with p tops ds) e
-  of_vals : {p : Pg} {tops : List Cn} {ds : List Dt} {ns : Nms} {e : Ex} → InNamed ns e → DeclSub p tops ds (vals ns) (scope_with p (tops ++ value_types (named_values ns)) ds) e
+  of_val : {p : Pg} {tops : List Cn} {ds : List Dt} {q : Place} {path : List ℕ} {x : ℕ} {w : Bool} {t : Cn} {e : Ex}
+      → DeclSub p tops ds (val path q x w t e) (scope_with p tops ds) e
+  of_vals : {p : Pg} {tops : List Cn} {ds : List Dt} {path : List ℕ} {ns : Nms} {e : Ex}
+      → InNamed ns e
+      → DeclSub p tops ds (vals path ns) (scope_with p (tops ++ value_types (named_values path ns)) ds) e
 
 -- a declaration of a list, with the types and datatypes before it
 pub data DeclAt : List Cn → List Dt → List De → List Cn → List Dt → De → Type 0 where
   here : {tops : List Cn} {ds : List Dt} {d : De} {rest : List De} → DeclAt tops ds (d ∷ rest) tops ds d
-  past_val : {tops us : List Cn} {ds es : List Dt} {q : Place} {x : ℕ} {w : Bool} {t : Cn} {e : Ex} {rest : List De} {d : De} → DeclAt (tops ++ t ∷ []) ds rest us es d → DeclAt tops ds (val q x w t e ∷ rest) us es d
-  past_vals : {tops us : List Cn} {ds es : List Dt} {ns : Nms} {rest : List De} {d : De} → DeclAt (tops ++ value_types (named_values ns)) ds rest us es d → DeclAt tops ds (vals ns ∷ rest) us es d
-  past_con : {tops us : List Cn} {ds es : List Dt} {q : Place} {x : ℕ} {w : Bool} {k : Kd} {c : Cn} {rest : List De} {d : De} → DeclAt tops ds rest us es d → DeclAt tops ds (con_is q x w k c ∷ rest) us es d
-  past_datatype : {tops us : List Cn} {ds es : List Dt} {b : Dt} {rest : List De} {d : De} → DeclAt tops (ds ++ b ∷ []) rest us es d → DeclAt tops ds (datatype b ∷ rest) us es d
+  past_val : {tops us : List Cn} {ds es : List Dt} {q : Place} {path : List ℕ} {x : ℕ} {w : Bool} {t : Cn} {e : Ex}
+      {rest : List De} {d : De}
+      → DeclAt (tops ++ t ∷ []) ds rest us es d
+      → DeclAt tops ds (val path q x w t e ∷ rest) us es d
+  past_vals : {tops us : List Cn} {ds es : List Dt} {path : List ℕ} {ns : Nms} {rest : List De} {d : De}
+      → DeclAt (tops ++ value_types (named_values path ns)) ds rest us es d
+      → DeclAt tops ds (vals path ns ∷ rest) us es d
+  past_con : {tops us : List Cn} {ds es : List Dt} {q : Place} {path : List ℕ} {x : ℕ} {w : Bool} {k : Kd} {c : Cn}
+      {rest : List De} {d : De}
+      → DeclAt tops ds rest us es d
+      → DeclAt tops ds (con_is path q x w k c ∷ rest) us es d
+  past_datatype : {tops us : List Cn} {ds es : List Dt} {b : Dt} {rest : List De} {d : De}
+      → DeclAt tops (ds ++ b ∷ []) rest us es d
+      → DeclAt tops ds (datatype b ∷ rest) us es d
+  past_thing : {tops us : List Cn} {ds es : List Dt} {path : List ℕ} {q : Place} {x : ℕ} {k : Th} {t : Cn}
+      {rest : List De} {d : De}
+      → DeclAt (tops ++ t ∷ []) ds rest us es d
+      → DeclAt tops ds (thing path q x k t ∷ rest) us es d
 
--- what a program has at fault outside of terms: a declaration's own fault, or a second entry of one name that is read by one method
+-- what a program has at fault outside of terms: a declaration's own fault, or a second entry of one name that is
+-- read by one method
 pub data ProgramOwn : Pg → Fault → Type 0 where
-  of_declaration : {p : Pg} {tops : List Cn} {ds : List Dt} {d : De} {f : Fault} → DeclAt [] [] p.decls tops ds d → DeclOwn p tops ds d f → ProgramOwn p f
-  same_entry : {p : Pg} {i j : ℕ} {post : Bool} {b e : Ent} {v : Value} → IsEntry p i post b → IsEntry p j post e → i < j → b.name ≡ e.name → slice_get (values p.decls) j ≡ Some v → ProgramOwn p (redeclared v.place (twice_entry e.name))
+  of_declaration : {p : Pg} {tops : List Cn} {ds : List Dt} {d : De} {f : Fault}
+      → DeclAt [] [] p.decls tops ds d
+      → DeclOwn p tops ds d f
+      → ProgramOwn p f
+  same_entry : {p : Pg} {i j : ℕ} {post : Bool} {b e : Ent} {v : Value}
+      → IsEntry p i post b
+      → IsEntry p j post e
+      → i < j
+      → b.name ≡ e.name
+      → slice_get (values p.decls) j ≡ Some v
+      → ProgramOwn p (redeclared v.place (twice_entry e.name))
 
 -- a term of a declaration of a program
 pub data ProgramSub : Pg → Sc → Ex → Type 0 where
-  in_declaration : {p : Pg} {tops : List Cn} {ds : List Dt} {d : De} {G : Sc} {e : Ex} → DeclAt [] [] p.decls tops ds d → DeclSub p tops ds d G e → ProgramSub p G e
+  in_declaration : {p : Pg} {tops : List Cn} {ds : List Dt} {d : De} {G : Sc} {e : Ex}
+      → DeclAt [] [] p.decls tops ds d
+      → DeclSub p tops ds d G e
+      → ProgramSub p G e
 
 pub data ProgramFails : Pg → Fault → Type 0 where
-  outside_terms : {p : Pg} {f : Fault} → ProgramOwn p f → ProgramFails p f
-  in_term : {p : Pg} {G : Sc} {e : Ex} {f : Fault} → ProgramSub p G e → Fails G e f → ProgramFails p f
+  outside_terms : {p : Pg} {f : Fault}
+      → ProgramOwn p f
+      → ProgramFails p f
+  in_term : {p : Pg} {G : Sc} {e : Ex} {f : Fault}
+      → ProgramSub p G e
+      → Fails G e f
+      → ProgramFails p f
 
 -- a node tells the first of its faults: its own only where each part's stands strictly later
 pub data Tells : Sc → Ex → Fault → Type 0 where
-  tells_own : {G : Sc} {e : Ex} {f : Fault} → Own G e f → ((g : Fault) → Own G e g → Earlier (at g) (at f) → ⊥) → ((H : Sc) (c : Ex) (g : Fault) → Sub G e H c → Fails H c g → Earlier (at f) (at g)) → Tells G e f
-  tells_inner : {G H : Sc} {e c : Ex} {f : Fault} → Sub G e H c → Tells H c f → ((g : Fault) → Fails G e g → Earlier (at g) (at f) → ⊥) → Tells G e f
+  tells_own : {G : Sc} {e : Ex} {f : Fault}
+      → Own G e f
+      → ((g : Fault) → Own G e g → Earlier (at g) (at f) → ⊥)
+      → ((H : Sc) (c : Ex) (g : Fault) → Sub G e H c → Fails H c g → Earlier (at f) (at g))
+      → Tells G e f
+  tells_inner : {G H : Sc} {e c : Ex} {f : Fault}
+      → Sub G e H c
+      → Tells H c f
+      → ((g : Fault) → Fails G e g → Earlier (at g) (at f) → ⊥)
+      → Tells G e f
 
 -- and so does a program
 pub data ProgramTells : Pg → Fault → Type 0 where
-  tells_outside : {p : Pg} {f : Fault} → ProgramOwn p f → ((g : Fault) → ProgramOwn p g → Earlier (at g) (at f) → ⊥) → ((G : Sc) (e : Ex) (g : Fault) → ProgramSub p G e → Fails G e g → Earlier (at f) (at g)) → ProgramTells p f
-  tells_in_term : {p : Pg} {G : Sc} {e : Ex} {f : Fault} → ProgramSub p G e → Tells G e f → ((g : Fault) → ProgramFails p g → Earlier (at g) (at f) → ⊥) → ProgramTells p f
+  tells_outside : {p : Pg} {f : Fault}
+      → ProgramOwn p f
+      → ((g : Fault) → ProgramOwn p g → Earlier (at g) (at f) → ⊥)
+      → ((G : Sc) (e : Ex) (g : Fault) → ProgramSub p G e → Fails G e g → Earlier (at f) (at g))
+      → ProgramTells p f
+  tells_in_term : {p : Pg} {G : Sc} {e : Ex} {f : Fault}
+      → ProgramSub p G e
+      → Tells G e f
+      → ((g : Fault) → ProgramFails p g → Earlier (at g) (at f) → ⊥)
+      → ProgramTells p f
 
 -- no fault is told
 abbrev pub Clear : Pg → Type 0

@@ -1,13 +1,15 @@
--- Laws of typing, for each of the three typings: with nothing asked beyond the manual's rules, with cover, with kinds of exchanged types.
+-- Laws of typing, for each of the three typings: with nothing asked beyond the manual's rules, with cover, with
+-- kinds of exchanged types.
 use Rattle.std.specs.Prelude.{◌≡◌, ℕ, ◌≤◌, List, Some, slice_get}
 use Rattle.std.specs.List.{Contains}
-use Rattle.con_terms.specs.Trees.{Kd, Cn}
+use Rattle.con_terms.specs.Trees.{Kd, types, row_of, Cn}
 use Rattle.con_terms.specs.Equal.{Equal}
 use Rattle.core_terms.specs.Trees.{Pt, Ex, Xs, no_nodes, a_node}
 use Rattle.core_terms.specs.Types.{no_types, xml_of}
 use Rattle.core_typing.specs.Cover.{Covers}
 use Rattle.core_typing.specs.Asks.{CoverAsked, Asks, no_cover, asking_cover, nothing_asked, cover_asked, kinds_asked}
-use Rattle.core_typing.specs.Scopes.{Sc, normal_of}
+use Rattle.core_typing.specs.Scopes.{Sc}
+use Rattle.core_typing.specs.Judged.{HasKind}
 use Rattle.core_typing.specs.Compared.{Alike}
 use Rattle.core_typing.specs.Typed.{Typed}
 use Rattle.core_typing.specs.Found.{FoundBy, Found, NodesFound}
@@ -47,7 +49,8 @@ OneTypeIsFound = (G : Sc) (e : Ex) (t u : Cn) → Found G e t → Found G e u �
 abbrev pub OneListIsBound : Type 0
 OneListIsBound = (G : Sc) (q : Pt) (t : Cn) (ts us : List Cn) → PatFound G q t ts → PatFound G q t us → ts ≡ us
 
--- a scope with more guards, further variables and top-level values behind those that are there, more folders and more effects
+-- a scope with more guards, further variables and top-level values behind those that are there, more folders and
+-- more effects
 pub record Extends (G H : Sc) : Type 0 where
   pub kinds : Widens G.kinds H.kinds
   pub locals : (i : ℕ) (t : Cn) → slice_get G.locals i ≡ Some t → slice_get H.locals i ≡ Some t
@@ -61,18 +64,26 @@ abbrev pub TypingsStay : Type 0
 TypingsStay = OfEach (λ A. (G H : Sc) (e : Ex) (t : Cn) → Extends G H → Typed A G e t → Typed A H e t)
 
 -- a node that fills no field, where nothing is filled before it
-pub record IsPlainNode (G : Sc) (c : Cn) (e : Ex) : Type 0 where
+pub record IsPlainNode (G : Sc) (c b : Cn) (e : Ex) : Type 0 where
   pub tree : Cn
-  pub context : Cn
-  pub used : Cn
+  pub fills_none : b ≡ no_types
   pub found : Found G e tree
-  pub normal : normal_of tree ≡ Some (xml_of context used no_types)
   pub in_place : Alike (xml_of c no_types no_types) tree
 
 abbrev pub ArePlainNodes : Sc → Cn → Xs → Type 0
 ArePlainNodes G c no_nodes = Unit {0}
-ArePlainNodes G c (a_node e xs) = IsPlainNode G c e × ArePlainNodes G c xs
+ArePlainNodes G c (a_node b e xs) = IsPlainNode G c b e × ArePlainNodes G c xs
 
 -- Nodes that fill no field are found and fill none, however many stand one after another.
 abbrev pub PlainNodesFillNothing : Type 0
-PlainNodesFillNothing = (G : Sc) (c : Cn) (xs : Xs) → ArePlainNodes G c xs → NodesFound no_cover G c no_types xs no_types
+PlainNodesFillNothing = (G : Sc) (c : Cn) (xs : Xs)
+    → ArePlainNodes G c xs
+    → NodesFound no_cover G c no_types xs no_types
+
+-- An only node is asked for no guard: whatever it fills, and whatever is filled before it, its type is enough.
+abbrev pub OnlyNodesAskNoGuard : Type 0
+OnlyNodesAskNoGuard = (G : Sc) (c u b t : Cn) (e : Ex)
+    → HasKind G b (row_of types)
+    → Found G e t
+    → Alike (xml_of c u b) t
+    → NodesFound no_cover G c u (a_node b e no_nodes) b

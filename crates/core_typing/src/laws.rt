@@ -1,10 +1,10 @@
 //! Laws of typing: exchange, substitution, kinds, what is found, what is told.
-ghost use Rattle.core_typing.specs.TypingLaws.{AskingLess, EqualTypesExchange, FoundAskingLess, FoundIsTyped, OneListIsBound, OneTypeIsFound, PlainNodesFillNothing, TypingsStay};
+ghost use Rattle.core_typing.specs.TypingLaws.{AskingLess, EqualTypesExchange, FoundAskingLess, FoundIsTyped, OneListIsBound, OneTypeIsFound, OnlyNodesAskNoGuard, PlainNodesFillNothing, TypingsStay};
 ghost use Rattle.core_typing.specs.FaultLaws.{FoundOrFails, FoundTellsNothing, ProgramSidesDiffer, ToldSidesDiffer};
 ghost use Rattle.core_typing.specs.FoundProgram.{FoundIsAccepted, FoundIsClear};
 ghost use Rattle.core_typing.specs.KindLaws.{BasisHasKinds, ConstructorsSubstitute, EtaKeepsKinds, KindsStayUnderBinders, KindsStayUnderGuards, KindsSubstitute, ReducedKeepsKinds, StepsKeepKinds};
 ghost use Rattle.core_typing.specs.ConLaws.{AcceptedScopesHaveTypes, ConstructorsSubstituteInTerms, TypesHaveKindType, TypingsStayUnderBinders, TypingsSubstitute};
-ghost use Rattle.core_typing.specs.SiteLaws.{OneCallOfAccepted};
+ghost use Rattle.core_typing.specs.SiteLaws.{NoEntryBeginsAnother, OneCallOfAccepted};
 
 /// A type may be replaced by an equal one.
 pub fn equal_types_exchange()
@@ -136,4 +136,14 @@ pub fn eta_keeps_kinds()
 /// What reduction leaves at last, without eta redexes, has the kind of what it comes from.
 pub fn reduced_constructors_keep_kinds()
     ensures { ReducedKeepsKinds }
+{}
+
+/// An only node is asked for no guard, whatever it and the nodes before it fill.
+pub fn an_only_node_asks_no_guard()
+    ensures { OnlyNodesAskNoGuard }
+{}
+
+/// No entry's name begins another's: of the pieces of a path, those that name the entry are told.
+pub fn no_entry_begins_another()
+    ensures { NoEntryBeginsAnother }
 {}

@@ -1,5 +1,5 @@
 -- Laws of routes: a path is read piece by piece, and is a link of one call at most.
-use Rattle.std.specs.Prelude.{◌≡◌, ◌≢◌, ℕ, Bool, List, [], length, Option, Some, None, slice_get}
+use Rattle.std.specs.Prelude.{◌≡◌, ◌≢◌, ℕ, ◌<◌, Bool, List, [], ◌++◌, length, Option, Some, None, slice_get}
 use Rattle.std.specs.List.{Contains, AllByRecursion}
 use Rattle.table_rows.specs.Shapes.{Sh, Cases}
 use Rattle.link_router.specs.Calls.{Ent, Rts, Cl, is_post}
@@ -11,9 +11,10 @@ use Rattle.link_router.specs.Routed.{Fits}
 abbrev pub IsPlain : List ℕ → Type 0
 IsPlain name = AllByRecursion (λ b. (b ≢ 47) × (b ≢ 37)) name
 
--- What the routes of an accepted program are: names of a module and a function, no two of which are read by one method; constructors with plain names, each once in a datatype.
+-- What the routes of an accepted program are: names of at least one piece, none of which begins another, and no two of which are read by one method; constructors with plain names, each once in a datatype.
 pub record AreNamed (routes : Rts) : Type 0 where
-  pub two_pieces : (e : Ent) → Contains routes.entries e → length e.name ≡ 2
+  pub some_pieces : (e : Ent) → Contains routes.entries e → 0 < length e.name
+  pub none_begins : (e d : Ent) (more : List (List ℕ)) → Contains routes.entries e → Contains routes.entries d → e.name ++ more ≡ d.name → more ≡ []
   pub plain_names : (e : Ent) → Contains routes.entries e → AllByRecursion IsPlain e.name
   pub entries_differ : (i j : ℕ) (e d : Ent) → slice_get routes.entries i ≡ Some e → slice_get routes.entries j ≡ Some d → is_post e.form ≡ is_post d.form → e.name ≡ d.name → i ≡ j
   pub plain_constructors : (cs : Cases) (n : List ℕ) (held : Option Sh) → Contains routes.datatypes cs → Contains cs (n, held) → IsPlain n
