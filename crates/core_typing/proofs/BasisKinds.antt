@@ -2,13 +2,13 @@
 use Rattle.std.proofs.Common.{◌≡◌, ◌≢◌, ℕ, zero, suc, ◌<◌, List, [], ◌∷◌, Option, Some, None, slice_get, refl, sym, subst, arith}
 use Rattle.std.specs.List.{Contains, All}
 use Rattle.std.proofs.lemmas.List.Elements.{All-cons, All-nil}
-use Rattle.con_terms.specs.Trees.{Kd, types, units, names, row_of, to, Cn, var, arrow, lambda, unit_con, name, row, no_pairs, pair}
+use Rattle.con_terms.specs.Trees.{Kd, types, units, names, row_of, to, Cn, var, arrow, record_of, lambda, unit_con, name, row, no_pairs, pair}
 use Rattle.con_terms.specs.Equal.{same, mapped}
 use Rattle.con_terms.specs.Apart.{Guards, pieces, HasPiece, has_piece, Separated, names_differ, by_guard, by_guard_turned, AllSeparated, Apart, apart}
 use Rattle.con_terms.specs.Kinded.{Scope, bind, assume, basic_kind, Kinded, of_var, of_basic, of_arrow, of_poly, of_guarded, of_record, of_app, of_lambda, of_unit, of_name, of_row, of_cat, of_map, no_fields, a_field}
 use Rattle.core_terms.specs.declared.basis.BasisName.{BasisName}
 use Rattle.core_terms.specs.declared.basis.BasisName.TheVariants.{Return, Bind, Error, Not, Strcat, Plus, Minus, Times, Divide, Mod, Neg, Eq, Ne, Lt, Le, Show, MkShow, MkEq, Txt, Cdata, Join, Bless, Query, QueryX, OneRow, OneOrNoRows, Dml, Nextval, GetCookie, SetCookie, ClearCookie, NumInt, ShowInt, ShowString, ShowBool, EqInt, EqString, EqBool, OrdInt, OrdString, OrdBool, SqlInt, SqlString, SqlBool}
-use Rattle.core_terms.specs.Names.{int_name, string_name, url_name, bool_name, option_name, transaction_name, xml_name, show_name, eq_name, ord_name, num_name, sql_table_name, sql_query_name, sql_exp_name, dml_name, sql_sequence_name, http_cookie_name, sql_injectable_name, html_context, body_context, table_context, tr_context, value_name, secure_name}
+use Rattle.core_terms.specs.Names.{int_name, string_name, url_name, bool_name, option_name, list_name, transaction_name, xml_name, show_name, eq_name, ord_name, num_name, sql_table_name, sql_query_name, sql_exp_name, dml_name, sql_sequence_name, http_cookie_name, sql_injectable_name, html_context, body_context, table_context, tr_context, value_name, secure_name}
 use Rattle.core_terms.specs.Types.{int_type, string_type, url_type, bool_type, no_types, unit_type, body_type, unit_row, transaction_of, option_of, show_of, eq_of, ord_of, num_of, xml_of, query_of, dml_type, sequence_type, cookie_of, injectable_of, result_of, setting_of, at_types, for_types, type_taking}
 use Rattle.core_terms.specs.declared.basis.TypeName.{TypeName}
 use Rattle.core_terms.specs.declared.basis.TypeName.TheVariants as type_name
