@@ -1,5 +1,5 @@
 -- The small form: one module whose `main` returns one page.
-use Rattle.std.specs.Prelude.{◌≡◌, ◌≤◌, ℕ, suc, max, Bool, not, ◌&&◌, IsTrue, List, [], ◌∷◌, codes}
+use Rattle.std.specs.Prelude.{◌≡◌, ◌≤◌, ℕ, suc, max, Bool, true, false, not, ◌&&◌, IsTrue, List, [], ◌∷◌, codes}
 use Rattle.surface_tree.specs.declared.kind.Kind.TheVariants.{KeywordFun, LowerName, LeftParenthesis, RightParenthesis, Colon, EqualSign, XmlOpen, XmlClose, TagOpen, TagClose, GreaterThan, TagSelfClose, AttributeName, TextRun, StringLiteral, LeftBrace, RightBrace, LeftBracket, RightBracket}
 use Rattle.surface_tree.specs.declared.token.Token.{Token}
 use Rattle.xml_trees.specs.declared.tag.Tag.{Tag}
