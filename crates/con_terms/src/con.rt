@@ -1,3 +1,5 @@
+//! Constructors of the type level.
+
 ghost use Rattle.std.specs.Prelude.{◌≡◌, ◌<◌, ◌++◌, ◌∷◌, [], Some, length, slice_get, OnOk, OnErr};
 
 use crate::kind::Kind;
@@ -51,6 +53,7 @@ impl Cons {
     ghost use Rattle.con_terms.specs.Trees.{con_list};
     ghost use Rattle.con_terms.specs.View.{con_tree, cons_tree};
 
+    /// An empty list.
     pub fn new(alloc: Global) -> Cons
         ensures { con_list (cons_tree result) ≡ [] }
     {
@@ -59,6 +62,7 @@ impl Cons {
         }
     }
 
+    /// Puts a constructor last. Where memory ends the list stays.
     pub fn push(&mut self, c: Con) -> Result<(), AllocError>
         ensures grown { OnOk result (con_list (cons_tree self.new) ≡ con_list (cons_tree self.old) ++ con_tree c ∷ []) }
         ensures kept { OnErr result (con_list (cons_tree self.new) ≡ con_list (cons_tree self.old)) }
@@ -66,12 +70,14 @@ impl Cons {
         Ok(self.items.push(c)?)
     }
 
+    /// How many constructors there are.
     pub fn len(&self) -> usize
         ensures { result ≡ length (con_list (cons_tree self.now)) }
     {
         self.items.len()
     }
 
+    /// The constructor at a place.
     pub fn at(&self, i: usize) -> &Con
         requires { i < length (con_list (cons_tree self.now)) }
         ensures { slice_get (con_list (cons_tree self.now)) i ≡ Some (con_tree result.now) }
@@ -99,6 +105,7 @@ impl Pairs {
     ghost use Rattle.con_terms.specs.Trees.{pair_list};
     ghost use Rattle.con_terms.specs.View.{con_tree, pair_tree, pairs_tree};
 
+    /// No fields.
     pub fn new(alloc: Global) -> Pairs
         ensures { pair_list (pairs_tree result) ≡ [] }
     {
@@ -107,6 +114,7 @@ impl Pairs {
         }
     }
 
+    /// Puts a field last. Where memory ends the list stays.
     pub fn push(&mut self, pair: Pair) -> Result<(), AllocError>
         ensures grown { OnOk result
             (pair_list (pairs_tree self.new) ≡ pair_list (pairs_tree self.old) ++ pair_tree pair ∷ []) }
@@ -115,12 +123,14 @@ impl Pairs {
         Ok(self.items.push(pair)?)
     }
 
+    /// How many fields there are.
     pub fn len(&self) -> usize
         ensures { result ≡ length (pair_list (pairs_tree self.now)) }
     {
         self.items.len()
     }
 
+    /// The field at a place.
     pub fn at(&self, i: usize) -> &Pair
         requires { i < length (pair_list (pairs_tree self.now)) }
         ensures { slice_get (pair_list (pairs_tree self.now)) i ≡ Some (pair_tree result.now) }

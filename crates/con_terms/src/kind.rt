@@ -1,3 +1,5 @@
+//! Kinds.
+
 ghost use Rattle.std.specs.Prelude.{◌≡◌, ◌<◌, ◌++◌, ◌∷◌, [], Some, length, slice_get, IsTrue, ◌↔◌, IfOk, OnOk, OnErr};
 ghost use Rattle.con_terms.specs.Same.{kd_eq, kds_eq};
 ghost use Rattle.con_terms.specs.View.{kind_tree, kinds_tree};
@@ -33,6 +35,7 @@ impl Kinds {
     ghost use Rattle.con_terms.specs.Trees.{kind_list};
     ghost use Rattle.con_terms.specs.View.{kind_tree, kinds_tree};
 
+    /// An empty list.
     pub fn new(alloc: Global) -> Kinds
         ensures { kind_list (kinds_tree result) ≡ [] }
     {
@@ -41,6 +44,7 @@ impl Kinds {
         }
     }
 
+    /// Puts a kind last. Where memory ends the list stays.
     pub fn push(&mut self, kind: Kind) -> Result<(), AllocError>
         ensures grown { OnOk result
             (kind_list (kinds_tree self.new) ≡ kind_list (kinds_tree self.old) ++ kind_tree kind ∷ []) }
@@ -49,12 +53,14 @@ impl Kinds {
         Ok(self.items.push(kind)?)
     }
 
+    /// How many kinds there are.
     pub fn len(&self) -> usize
         ensures { result ≡ length (kind_list (kinds_tree self.now)) }
     {
         self.items.len()
     }
 
+    /// The kind at a place.
     pub fn at(&self, i: usize) -> &Kind
         requires { i < length (kind_list (kinds_tree self.now)) }
         ensures { slice_get (kind_list (kinds_tree self.now)) i ≡ Some (kind_tree result.now) }
@@ -82,6 +88,7 @@ pub fn copy_kind(alloc: Global, k: &Kind) -> Result<Kind, AllocError>
     }
 }
 
+/// A copy of a list of kinds.
 #[cycle(copy_kind)]
 fn copy_kinds(alloc: Global, ks: &Kinds) -> Result<Kinds, AllocError>
     ensures { IfOk result (λ new. kinds_tree new ≡ kinds_tree ks.now) }
@@ -101,6 +108,7 @@ pub fn same_kind(a: &Kind, b: &Kind) -> bool
     equal(a, b)
 }
 
+/// Whether two kinds are one, node by node.
 #[cycle(equal)]
 fn equal(a: &Kind, b: &Kind) -> bool
     ensures { result ≡ kd_eq (kind_tree a.now) (kind_tree b.now) }
@@ -124,6 +132,7 @@ fn equal(a: &Kind, b: &Kind) -> bool
     }
 }
 
+/// Whether two lists of kinds are one.
 #[cycle(equal)]
 fn equal_each(ks: &Kinds, ls: &Kinds) -> bool
     ensures { result ≡ kds_eq (kinds_tree ks.now) (kinds_tree ls.now) }

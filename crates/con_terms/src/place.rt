@@ -1,3 +1,5 @@
+//! Places in the sources.
+
 /// A place in the sources: a file's number in the list of modules, and a byte offset.
 #[derive(Clone, Copy, PartialEq, Eq, Debug)]
 pub struct Place {

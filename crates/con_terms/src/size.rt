@@ -17,7 +17,7 @@ pub fn has_room(c: &Con) -> bool
     is_small(c, BINDERS - 1)
 }
 
-// Whether all numbers are small and binders nest at most `room` deep.
+/// Whether all numbers are small and binders nest at most `room` deep.
 #[cycle(is_small)]
 fn is_small(c: &Con, room: u32) -> bool
     ensures { IsTrue result ↔ ((top (con_tree c.now) < 2 ^ 31) × (nest (con_tree c.now) ≤ room)) }
@@ -38,6 +38,7 @@ fn is_small(c: &Con, room: u32) -> bool
     }
 }
 
+/// Whether each constructor is small.
 #[cycle(is_small)]
 fn are_small(cs: &Cons, room: u32) -> bool
     ensures { IsTrue result ↔ ((top_all (cons_tree cs.now) < 2 ^ 31) × (nest_all (cons_tree cs.now) ≤ room)) }
@@ -50,6 +51,7 @@ fn are_small(cs: &Cons, room: u32) -> bool
     true
 }
 
+/// Whether each field is small.
 #[cycle(is_small)]
 fn are_small_pairs(ps: &Pairs, room: u32) -> bool
     ensures { IsTrue result ↔ ((top_pairs (pairs_tree ps.now) < 2 ^ 31) × (nest_pairs (pairs_tree ps.now) ≤ room)) }
@@ -62,6 +64,7 @@ fn are_small_pairs(ps: &Pairs, room: u32) -> bool
     true
 }
 
+/// Whether a field is small.
 #[cycle(is_small)]
 fn is_small_pair(p: &Pair, room: u32) -> bool
     ensures { IsTrue result
@@ -96,6 +99,7 @@ pub fn fits(c: &Con, room: u32) -> bool
     }
 }
 
+/// Whether each constructor is at most `room` deep.
 #[cycle(fits)]
 fn all_fit(cs: &Cons, room: u32) -> bool
     ensures { IsTrue result ↔ (depth_all (cons_tree cs.now) ≤ room) }
@@ -108,6 +112,7 @@ fn all_fit(cs: &Cons, room: u32) -> bool
     true
 }
 
+/// Whether each field is at most `room` deep.
 #[cycle(fits)]
 fn pairs_fit(ps: &Pairs, room: u32) -> bool
     ensures { IsTrue result ↔ (depth_pairs (pairs_tree ps.now) ≤ room) }
@@ -120,6 +125,7 @@ fn pairs_fit(ps: &Pairs, room: u32) -> bool
     true
 }
 
+/// Whether a field is at most `room` deep.
 #[cycle(fits)]
 fn pair_fits(p: &Pair, room: u32) -> bool
     ensures { IsTrue result ↔ ((depth (pair_tree p.now).0 ≤ room) × (depth (pair_tree p.now).1 ≤ room)) }
@@ -127,6 +133,7 @@ fn pair_fits(p: &Pair, room: u32) -> bool
     fits(&p.name, room) && fits(&p.value, room)
 }
 
+/// Whether a kind is at most `room` deep.
 #[cycle(kind_fits)]
 fn kind_fits(k: &Kind, room: u32) -> bool
     ensures { IsTrue result ↔ (kind_depth (kind_tree k.now) ≤ room) }
@@ -143,6 +150,7 @@ fn kind_fits(k: &Kind, room: u32) -> bool
     }
 }
 
+/// Whether each kind is at most `room` deep.
 #[cycle(kind_fits)]
 fn kinds_fit(ks: &Kinds, room: u32) -> bool
     ensures { IsTrue result ↔ (kinds_depth (kinds_tree ks.now) ≤ room) }

@@ -9,10 +9,12 @@ use crate::symbol::SymTable;
 use std::alloc::{AllocError, Global};
 use std::test::Fail;
 
+/// `$c`
 fn record(alloc: Global, c: Con) -> Result<Con, AllocError> {
     Ok(Con::Record(Box::new(alloc, c)?))
 }
 
+/// `fn x :: Type => body`
 fn lambda(alloc: Global, body: Con) -> Result<Con, AllocError> {
     Ok(Con::Lambda(Box::new(alloc, Kind::Types)?, Box::new(alloc, body)?))
 }

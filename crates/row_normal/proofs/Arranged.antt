@@ -64,11 +64,11 @@ module _ {X : Type 0} (lt : X → X → Bool) where
   arranged [] = []
   arranged (p ∷ ps) = put_in p (arranged ps)
 
-  abbrev Above : X → List X → Type 0
+  abbrev pub Above : X → List X → Type 0
   Above x [] = Unit {0}
   Above x (y ∷ ys) = (lt y x ≡ false) × Above x ys
 
-  abbrev Up : List X → Type 0
+  abbrev pub Up : List X → Type 0
   Up [] = Unit {0}
   Up (x ∷ xs) = Above x xs × Up xs
 
@@ -113,7 +113,7 @@ module _ {X : Type 0} (lt : X → X → Bool) where
     put_up p [] u = (tt, tt)
     put_up p (q ∷ qs) (a, u) = put_up_cases p q qs (lt q p) refl a u (put_up p qs u)
 
-    arranged_up : (xs : List X) → Up (arranged xs)
+    pub arranged_up : (xs : List X) → Up (arranged xs)
     arranged_up [] = tt
     arranged_up (x ∷ xs) = put_up x (arranged xs) (arranged_up xs)
 

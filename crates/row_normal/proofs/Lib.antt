@@ -32,3 +32,8 @@ pub mod Turned
 pub mod Leaving
 pub mod MapTurns
 pub mod Sequenced
+pub mod PiecesWritten
+pub mod Reduced
+pub mod Deeper
+pub mod Depths
+pub mod NormalPieces

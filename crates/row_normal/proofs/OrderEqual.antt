@@ -4,6 +4,7 @@ use Rattle.con_terms.specs.Trees.{Kd, Cn, var, basic, arrow, poly, guarded, reco
 use Rattle.con_terms.specs.Same.{kd_eq}
 use Rattle.con_terms.specs.Equal.{Equal, same, back, step as chain, in_arrow, in_poly, in_guarded, in_record, in_app, in_lambda, in_row, in_cat, in_tuple, in_proj, cat_swaps, cat_groups, cat_unit, row_splits, EqualAll, none_all, one_all, none_pairs, one_pair}
 use Rattle.con_terms.proofs.SameKinds.{kd_eq_same}
+use Rattle.row_normal.specs.Pieces.{written_fields, written_pieces}
 use Rattle.row_normal.specs.Ordered.{before, insert, sorted, leading_fields, after_leading, glued, joined, ordered, ordered_pieces, field_pieces, ordered_all, first_kind}
 
 -- the pieces one after another, before the empty literal
@@ -17,7 +18,8 @@ one = chain cat_swaps cat_unit
 turn : {p q r : Cn} → Equal (cat p (cat q r)) (cat q (cat p r))
 turn = chain (back cat_groups) (chain (in_cat cat_swaps same) cat_groups)
 
-joined_equal : (k : Kd) (ps : List Cn) → Equal (cats k ps) (joined k ps)
+-- pieces joined by ++ are the pieces one after another
+pub joined_equal : (k : Kd) (ps : List Cn) → Equal (cats k ps) (joined k ps)
 joined_equal k [] = same
 joined_equal k (p ∷ []) = one
 joined_equal k (p ∷ q ∷ ps) = in_cat same (joined_equal k (q ∷ ps))
@@ -54,11 +56,11 @@ pub in_order_equal : (k : Kd) (ps : List Cn) → Equal (cats k ps) (joined k (gl
 in_order_equal k ps = chain (sorted_equal k ps) (chain (glued_equal k (sorted ps)) (joined_equal k (glued (sorted ps))))
 
 -- the kind of the empty literal at the end does not matter
-kind_moves : (l k : Kd) (ps : List Cn) → Equal (cats l ps) (cats k ps)
+pub kind_moves : (l k : Kd) (ps : List Cn) → Equal (cats l ps) (cats k ps)
 kind_moves l k [] = chain (back cat_unit) (chain cat_swaps cat_unit)
 kind_moves l k (p ∷ ps) = in_cat same (kind_moves l k ps)
 
-cats_append : (k : Kd) (ps qs : List Cn) → Equal (cat (cats k ps) (cats k qs)) (cats k (ps ++ qs))
+pub cats_append : (k : Kd) (ps qs : List Cn) → Equal (cat (cats k ps) (cats k qs)) (cats k (ps ++ qs))
 cats_append k [] qs = cat_unit
 cats_append k (p ∷ ps) qs = chain cat_groups (in_cat same (cats_append k ps qs))
 
@@ -106,3 +108,28 @@ mutual
   ordered_all_equal : (cs : Cns) → EqualAll cs (ordered_all cs)
   ordered_all_equal no_cons = none_all
   ordered_all_equal (con c cs) = one_all (ordered_equal c) (ordered_all_equal cs)
+
+written_fields_equal : (k : Kd) (ps : Prs) → Equal (row k ps) (cats k (written_fields k ps))
+written_fields_equal k no_pairs = same
+written_fields_equal k (pair n v ps) = chain row_splits (in_cat same (written_fields_equal k ps))
+
+written_cats : (k : Kd) (c : Cn) → Equal c (cats k (written_pieces c))
+written_cats k (row l ps) = chain (written_fields_equal l ps) (kind_moves l k (written_fields l ps))
+written_cats k (cat a b) = chain (in_cat (written_cats k a) (written_cats k b)) (cats_append k (written_pieces a) (written_pieces b))
+written_cats k (var i) = back one
+written_cats k (basic s) = back one
+written_cats k (arrow a b) = back one
+written_cats k (poly x l b) = back one
+written_cats k (guarded a b c) = back one
+written_cats k (record_of a) = back one
+written_cats k (app a b) = back one
+written_cats k (lambda l b) = back one
+written_cats k unit_con = back one
+written_cats k (name s) = back one
+written_cats k (map_of l m) = back one
+written_cats k (tuple cs) = back one
+written_cats k (proj a n) = back one
+
+-- a row is its pieces, as written, joined by ++
+pub written_equal : (k : Kd) (c : Cn) → Equal c (joined k (written_pieces c))
+written_equal k c = chain (written_cats k c) (joined_equal k (written_pieces c))

@@ -158,3 +158,24 @@ mutual
   all_twice : (cs : Cns) → ordered_all (ordered_all cs) ≡ ordered_all cs
   all_twice no_cons = refl
   all_twice (con c cs) = ap (λ z. con z (ordered_all (ordered_all cs))) (ordered_twice c) ∙ ap (con (ordered c)) (all_twice cs)
+
+-- the pieces of what is in order are its pieces in order
+pub pieces_sorted : (c : Cn) → ordered_pieces (ordered c) ≡ sorted (ordered_pieces c)
+pieces_sorted (row k ps) = pieces_joined k (glued (sorted (field_pieces k ps))) ∙ glued_pieces (sorted (field_pieces k ps)) (all_sorted (field_pieces k ps) (fields_in_order k ps))
+pieces_sorted (cat a b) =
+    let ps = ordered_pieces a ++ ordered_pieces b in
+    pieces_joined (first_kind a) (glued (sorted ps))
+    ∙ glued_pieces (sorted ps) (all_sorted ps (all_append (ordered_pieces a) (ordered_pieces b) (pieces_in_order a) (pieces_in_order b)))
+pieces_sorted (var i) = refl
+pieces_sorted (basic s) = refl
+pieces_sorted (arrow a b) = ap (λ p. p ∷ []) (ordered_twice (arrow a b))
+pieces_sorted (poly x k b) = ap (λ p. p ∷ []) (ordered_twice (poly x k b))
+pieces_sorted (guarded a b c) = ap (λ p. p ∷ []) (ordered_twice (guarded a b c))
+pieces_sorted (record_of a) = ap (λ p. p ∷ []) (ordered_twice (record_of a))
+pieces_sorted (app a b) = ap (λ p. p ∷ []) (ordered_twice (app a b))
+pieces_sorted (lambda k b) = ap (λ p. p ∷ []) (ordered_twice (lambda k b))
+pieces_sorted unit_con = refl
+pieces_sorted (name s) = refl
+pieces_sorted (map_of k l) = refl
+pieces_sorted (tuple cs) = ap (λ p. p ∷ []) (ordered_twice (tuple cs))
+pieces_sorted (proj a n) = ap (λ p. p ∷ []) (ordered_twice (proj a n))

@@ -50,7 +50,8 @@ tied_keys j k p q = numbers_told j k (neither (slice_cmp nat_cmp j k) (slice_cmp
 pub tied_told : (p q : Cn) → ties before p q ≡ true → p ≡ q
 tied_told p q h = let (l, m) = tied before before_ranks p q h in key_told p q (tied_keys (piece_key p) (piece_key q) l m)
 
-sorted_is : (ps : List Cn) → arranged before ps ≡ sorted ps
+-- the pieces in order, told in two ways
+pub sorted_is : (ps : List Cn) → arranged before ps ≡ sorted ps
 sorted_is ps = sym (map-id (arranged before ps)) ∙ arranged_is (λ p. p) ps ∙ ap sorted (map-id ps)
 
 pub sorted_swaps : (ps qs : List Cn) → sorted (ps ++ qs) ≡ sorted (qs ++ ps)

@@ -1,13 +1,14 @@
 pub mod Steps
 pub mod Contracted
 pub mod Ordered
+pub mod Pieces
 pub mod Glue
 pub mod Finished
-pub mod NormalForm
+pub mod SameTree
 pub mod StepLeft
+pub mod NormalForm
 pub mod Rounds
 pub mod Turns
-pub mod SameTree
 pub mod View
 pub mod Roots
 pub mod Sequences

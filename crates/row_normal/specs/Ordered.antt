@@ -90,12 +90,14 @@ sorted (p ∷ ps) = insert p (sorted ps)
 
 -- the fields of the leading literals that have one field with a literal name, and this kind
 abbrev pub leading_fields : Kd → List Cn → Prs
-leading_fields k (row l (pair (name s) v no_pairs) ∷ ps) = if kd_eq k l then pair (name s) v (leading_fields k ps) else no_pairs
+leading_fields k (row l (pair (name s) v no_pairs) ∷ ps) =
+    if kd_eq k l then pair (name s) v (leading_fields k ps) else no_pairs
 leading_fields k _ = no_pairs
 
 -- what follows them
 abbrev pub after_leading : Kd → List Cn → List Cn
-after_leading k (row l (pair (name s) v no_pairs) ∷ ps) = if kd_eq k l then after_leading k ps else row l (pair (name s) v no_pairs) ∷ ps
+after_leading k (row l (pair (name s) v no_pairs) ∷ ps) =
+    if kd_eq k l then after_leading k ps else row l (pair (name s) v no_pairs) ∷ ps
 after_leading k ps = ps
 
 -- the pieces, of which the leading fields with literal names are one literal

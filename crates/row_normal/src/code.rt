@@ -9,7 +9,7 @@ use con_terms::con::{Con, Cons, Pair, Pairs};
 use con_terms::kind::{Kind, Kinds};
 use std::alloc::{AllocError, Global};
 
-// How many numbers most keys have room in.
+/// How many numbers most keys have room in.
 const USUAL: usize = 16;
 
 /// By what a piece of a row is placed.
@@ -22,7 +22,7 @@ pub fn piece_key(alloc: Global, c: &Con) -> Result<Vec<u64>, AllocError>
     Ok(key)
 }
 
-// Literal names by their symbols' numbers, then variables, outer binders first, then other pieces.
+/// Literal names by their symbols' numbers, then variables, outer binders first, then other pieces.
 fn rank(c: &Con, key: &mut Vec<u64>) -> Result<(), AllocError>
     ensures { OnOk result (key.new.items ≡ key.old.items ++ piece_rank (con_tree c.now)) }
 {
@@ -46,12 +46,14 @@ pub fn literal_name(fields: &Pairs) -> Option<u32>
     field_symbol(&fields.items[0])
 }
 
+/// The symbol of a field's name, where that is a literal.
 fn field_symbol(field: &Pair) -> Option<u32>
     ensures { result ≡ name_of (pair_tree field.now).0 }
 {
     symbol_of(&field.name)
 }
 
+/// The symbol of a literal name.
 fn symbol_of(c: &Con) -> Option<u32>
     ensures { result ≡ name_of (con_tree c.now) }
 {
@@ -61,6 +63,7 @@ fn symbol_of(c: &Con) -> Option<u32>
     }
 }
 
+/// Adds the numbers of a kind.
 #[cycle(kind_code)]
 fn kind_code(k: &Kind, key: &mut Vec<u64>) -> Result<(), AllocError>
     ensures { OnOk result (key.new.items ≡ key.old.items ++ kind_numbers (kind_tree k.now)) }
@@ -85,9 +88,11 @@ fn kind_code(k: &Kind, key: &mut Vec<u64>) -> Result<(), AllocError>
     }
 }
 
+/// Adds the number of kinds, and then those of each.
 #[cycle(kind_code)]
 fn kinds_code(ks: &Kinds, key: &mut Vec<u64>) -> Result<(), AllocError>
-    ensures { OnOk result (key.new.items ≡ key.old.items ++ kinds_count (kinds_tree ks.now) ∷ kinds_numbers (kinds_tree ks.now)) }
+    ensures { OnOk result
+        (key.new.items ≡ key.old.items ++ kinds_count (kinds_tree ks.now) ∷ kinds_numbers (kinds_tree ks.now)) }
 {
     key.push(ks.items.len() as u64)?;
     for i in 0..ks.items.len() {
@@ -96,6 +101,7 @@ fn kinds_code(ks: &Kinds, key: &mut Vec<u64>) -> Result<(), AllocError>
     Ok(())
 }
 
+/// Adds the numbers of a constructor.
 #[cycle(con_code)]
 fn con_code(c: &Con, key: &mut Vec<u64>) -> Result<(), AllocError>
     ensures { OnOk result (key.new.items ≡ key.old.items ++ tree_code (con_tree c.now)) }
@@ -163,6 +169,7 @@ fn con_code(c: &Con, key: &mut Vec<u64>) -> Result<(), AllocError>
     }
 }
 
+/// Adds a form and its number.
 fn numbered(form: u64, number: u64, key: &mut Vec<u64>) -> Result<(), AllocError>
     ensures { OnOk result (key.new.items ≡ key.old.items ++ form ∷ number ∷ []) }
 {
@@ -170,9 +177,11 @@ fn numbered(form: u64, number: u64, key: &mut Vec<u64>) -> Result<(), AllocError
     Ok(key.push(number)?)
 }
 
+/// Adds the number of constructors, and then those of each.
 #[cycle(con_code)]
 fn cons_code(cs: &Cons, key: &mut Vec<u64>) -> Result<(), AllocError>
-    ensures { OnOk result (key.new.items ≡ key.old.items ++ cons_count (cons_tree cs.now) ∷ trees_code (cons_tree cs.now)) }
+    ensures { OnOk result
+        (key.new.items ≡ key.old.items ++ cons_count (cons_tree cs.now) ∷ trees_code (cons_tree cs.now)) }
 {
     key.push(cs.items.len() as u64)?;
     for i in 0..cs.items.len() {
@@ -181,9 +190,11 @@ fn cons_code(cs: &Cons, key: &mut Vec<u64>) -> Result<(), AllocError>
     Ok(())
 }
 
+/// Adds the number of fields, and then those of each.
 #[cycle(con_code)]
 fn pairs_code(ps: &Pairs, key: &mut Vec<u64>) -> Result<(), AllocError>
-    ensures { OnOk result (key.new.items ≡ key.old.items ++ pairs_count (pairs_tree ps.now) ∷ fields_code (pairs_tree ps.now)) }
+    ensures { OnOk result
+        (key.new.items ≡ key.old.items ++ pairs_count (pairs_tree ps.now) ∷ fields_code (pairs_tree ps.now)) }
 {
     key.push(ps.items.len() as u64)?;
     for i in 0..ps.items.len() {
@@ -192,9 +203,11 @@ fn pairs_code(ps: &Pairs, key: &mut Vec<u64>) -> Result<(), AllocError>
     Ok(())
 }
 
+/// Adds the numbers of a field's name and value.
 #[cycle(con_code)]
 fn pair_code(p: &Pair, key: &mut Vec<u64>) -> Result<(), AllocError>
-    ensures { OnOk result (key.new.items ≡ key.old.items ++ tree_code (pair_tree p.now).0 ++ tree_code (pair_tree p.now).1) }
+    ensures { OnOk result
+        (key.new.items ≡ key.old.items ++ tree_code (pair_tree p.now).0 ++ tree_code (pair_tree p.now).1) }
 {
     con_code(&p.name, key)?;
     con_code(&p.value, key)

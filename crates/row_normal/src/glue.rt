@@ -24,7 +24,8 @@ pub enum Joined {
 
 /// The pieces in order, joined by `++`, or the empty literal of this kind.
 pub fn in_order(alloc: Global, kind: Kind, pieces: Vec<Piece>) -> Result<Con, AllocError>
-    ensures { IfOk result (λ c. con_tree c ≡ joined_by (kind_tree kind) (glued (sorted (map piece_tree pieces.items)))) }
+    ensures { IfOk result
+        (λ c. con_tree c ≡ joined_by (kind_tree kind) (glued (sorted (map piece_tree pieces.items)))) }
 {
     let mut pieces = pieces;
     pieces.sort_by(|a, b| a.key.as_slice().cmp(b.key.as_slice()))?;
@@ -32,8 +33,8 @@ pub fn in_order(alloc: Global, kind: Kind, pieces: Vec<Piece>) -> Result<Con, Al
     concatenated(alloc, kind, joined)
 }
 
-// The pieces joined by `++`, or the empty literal of this kind.
-fn concatenated(alloc: Global, kind: Kind, pieces: Vec<Con>) -> Result<Con, AllocError>
+/// The pieces joined by `++`, or the empty literal of this kind.
+pub fn concatenated(alloc: Global, kind: Kind, pieces: Vec<Con>) -> Result<Con, AllocError>
     ensures { IfOk result (λ c. con_tree c ≡ joined_by (kind_tree kind) (map con_tree pieces.items)) }
 {
     let mut pieces = pieces;
@@ -50,13 +51,14 @@ fn concatenated(alloc: Global, kind: Kind, pieces: Vec<Con>) -> Result<Con, Allo
     Ok(whole)
 }
 
+/// `a ++ b`
 fn cat_of(alloc: Global, a: Con, b: Con) -> Result<Con, AllocError>
     ensures { IfOk result (λ c. con_tree c ≡ cat (con_tree a) (con_tree b)) }
 {
     Ok(Con::Cat(Box::new(alloc, a)?, Box::new(alloc, b)?))
 }
 
-// The pieces, of which leading fields with literal names and one kind are one literal.
+/// The pieces, of which leading fields with literal names and one kind are one literal.
 fn joined_literals(alloc: Global, pieces: Vec<Piece>) -> Result<Vec<Con>, AllocError>
     ensures { IfOk result (λ cs. map con_tree cs.items ≡ glued (map piece_tree pieces.items)) }
 {
@@ -68,6 +70,18 @@ fn joined_literals(alloc: Global, pieces: Vec<Piece>) -> Result<Vec<Con>, AllocE
     in_list(alloc, joined)
 }
 
+/// The pieces, of which leading fields with literal names and one kind are one literal.
+pub fn with_literals_joined(alloc: Global, pieces: Vec<Con>) -> Result<Vec<Con>, AllocError>
+    ensures { IfOk result (λ cs. map con_tree cs.items ≡ glued (map con_tree pieces.items)) }
+{
+    let mut joined = Joined::Nothing;
+    for con in pieces {
+        joined = with_piece(alloc, joined, con)?;
+    }
+    in_list(alloc, joined)
+}
+
+/// What is joined with one more piece.
 fn with_piece(alloc: Global, joined: Joined, con: Con) -> Result<Joined, AllocError>
     ensures { IfOk result (λ j. (rest : List Cn) → joined_then j rest ≡ joined_then joined (con_tree con ∷ rest)) }
 {
@@ -82,6 +96,7 @@ fn with_piece(alloc: Global, joined: Joined, con: Con) -> Result<Joined, AllocEr
     }
 }
 
+/// What is joined after the first piece.
 fn first_piece(alloc: Global, con: Con) -> Result<Joined, AllocError>
     ensures { IfOk result (λ j. (rest : List Cn) → joined_then j rest ≡ glued (con_tree con ∷ rest)) }
 {
@@ -97,6 +112,7 @@ fn first_piece(alloc: Global, con: Con) -> Result<Joined, AllocError>
     }
 }
 
+/// What is joined where a piece begins no literal.
 fn alone(alloc: Global, con: Con) -> Result<Joined, AllocError>
     ensures { IfOk result (λ j. (rest : List Cn) → joined_then j rest ≡ con_tree con ∷ rest) }
 {
@@ -105,9 +121,11 @@ fn alone(alloc: Global, con: Con) -> Result<Joined, AllocError>
     Ok(Joined::Pieces(pieces))
 }
 
-// Adds a piece to the literal, or ends the literal.
+/// Adds a piece to the literal, or ends the literal.
 fn after_literal(alloc: Global, k: Box<Kind>, fields: Pairs, con: Con) -> Result<Joined, AllocError>
-    ensures { IfOk result (λ j. (rest : List Cn) → joined_then j rest ≡ literal_then (kind_tree k.value) (pairs_tree fields) (con_tree con ∷ rest)) }
+    ensures { IfOk result
+        (λ j. (rest : List Cn)
+        → joined_then j rest ≡ literal_then (kind_tree k.value) (pairs_tree fields) (con_tree con ∷ rest)) }
 {
     match con {
         Con::Row(l, more) => literal_and_row(alloc, k, fields, l, more),
@@ -115,6 +133,7 @@ fn after_literal(alloc: Global, k: Box<Kind>, fields: Pairs, con: Con) -> Result
     }
 }
 
+/// Adds the only field of a literal to those before it, or ends the literal.
 fn literal_and_row(
     alloc: Global,
     k: Box<Kind>,
@@ -122,7 +141,10 @@ fn literal_and_row(
     l: Box<Kind>,
     more: Pairs,
 ) -> Result<Joined, AllocError>
-    ensures { IfOk result (λ j. (rest : List Cn) → joined_then j rest ≡ literal_then (kind_tree k.value) (pairs_tree fields) (row (kind_tree l.value) (pairs_tree more) ∷ rest)) }
+    ensures { IfOk result
+        (λ j. (rest : List Cn)
+        → joined_then j rest
+        ≡ literal_then (kind_tree k.value) (pairs_tree fields) (row (kind_tree l.value) (pairs_tree more) ∷ rest)) }
 {
     if goes_on(&k, &l, &more) {
         Ok(Joined::Literal(k, fields_then(fields, more)?))
@@ -131,26 +153,28 @@ fn literal_and_row(
     }
 }
 
-// Whether a literal of the kind `k` takes these fields of the kind `l` up.
+/// Whether a literal of the kind `k` takes these fields of the kind `l` up.
 fn goes_on(k: &Kind, l: &Kind, more: &Pairs) -> bool
     ensures { result ≡ (is_some (literal_of (pairs_tree more.now)) && kd_eq (kind_tree k.now) (kind_tree l.now)) }
 {
     literal_name(more).is_some() && same_kind(k, l)
 }
 
-// The literal, after which no more fields come.
+/// The literal, after which no more fields come.
 fn literal(k: Box<Kind>, fields: Pairs) -> Con
     ensures { con_tree result ≡ row (kind_tree k.value) (pairs_then (pairs_tree fields) no_pairs) }
 {
     row_of(k, fields)
 }
 
+/// The literal of this kind with these fields.
 fn row_of(k: Box<Kind>, fields: Pairs) -> Con
     ensures { con_tree result ≡ row (kind_tree k.value) (pairs_tree fields) }
 {
     Con::Row(k, fields)
 }
 
+/// Two pieces that are not joined to one.
 fn both(alloc: Global, first: Con, second: Con) -> Result<Joined, AllocError>
     ensures { IfOk result (λ j. (rest : List Cn) → joined_then j rest ≡ con_tree first ∷ con_tree second ∷ rest) }
 {
@@ -160,6 +184,7 @@ fn both(alloc: Global, first: Con, second: Con) -> Result<Joined, AllocError>
     Ok(Joined::Pieces(pieces))
 }
 
+/// These fields, and then the others.
 fn fields_then(fields: Pairs, more: Pairs) -> Result<Pairs, AllocError>
     ensures { IfOk result (λ ps. pairs_tree ps ≡ pairs_then (pairs_tree fields) (pairs_tree more)) }
 {
@@ -169,7 +194,7 @@ fn fields_then(fields: Pairs, more: Pairs) -> Result<Pairs, AllocError>
     Ok(Pairs { items })
 }
 
-// The pieces as a list.
+/// The pieces as a list.
 fn in_list(alloc: Global, joined: Joined) -> Result<Vec<Con>, AllocError>
     ensures { IfOk result (λ cs. map con_tree cs.items ≡ joined_then joined []) }
 {

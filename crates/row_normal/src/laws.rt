@@ -1,6 +1,6 @@
 //! Laws of normal forms. Each function does nothing; its contract holds of all constructors.
 
-ghost use Rattle.row_normal.specs.Laws.{NormalFormsAreEqual, NormalFormsStay, OrderOfWriting, OrderStays, RefusalsHaveACause, RowsMayTurn};
+ghost use Rattle.row_normal.specs.Laws.{FieldsAreInOrder, NormalFormsAreEqual, NormalFormsStay, OrderOfWriting, OrderStays, PiecesAreInOrder, RefusalsHaveACause, RowsMayTurn};
 
 /// A normal form is equal to what it comes from.
 pub fn normal_forms_are_equal()
@@ -22,7 +22,7 @@ pub fn order_stays()
     ensures { OrderStays }
 {}
 
-/// A normal form that is not too deep is its own normal form, at no units.
+/// A normal form is its own normal form, at no units.
 pub fn normal_forms_stay()
     ensures { NormalFormsStay }
 {}
@@ -30,4 +30,14 @@ pub fn normal_forms_stay()
 /// A refusal has one of two causes: the steps reach the units, or a constructor met is too deep.
 pub fn refusals_have_a_cause()
     ensures { RefusalsHaveACause }
+{}
+
+/// The pieces of a row in normal form stand in order, as they are written: so a walk over them finds a field.
+pub fn pieces_are_in_order()
+    ensures { PiecesAreInOrder }
+{}
+
+/// The pieces of the row of a record in normal form stand in order, as they are written.
+pub fn fields_are_in_order()
+    ensures { FieldsAreInOrder }
 {}

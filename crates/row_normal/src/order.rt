@@ -63,6 +63,7 @@ pub fn ordered(alloc: Global, c: &mut Con) -> Result<(), AllocError>
     }
 }
 
+/// Puts the rows of a constructor on the heap in order.
 #[cycle(ordered)]
 fn ordered_box(alloc: Global, c: &mut Box<Con>) -> Result<(), AllocError>
     ensures { OnOk result (con_tree c.new.value ≡ in_its_order (con_tree c.old.value)) }
@@ -70,6 +71,7 @@ fn ordered_box(alloc: Global, c: &mut Box<Con>) -> Result<(), AllocError>
     ordered(alloc, c)
 }
 
+/// Puts the rows of each constructor in order.
 #[cycle(ordered)]
 fn ordered_each(alloc: Global, cs: Cons) -> Result<Cons, AllocError>
     ensures { IfOk result (λ ds. cons_tree ds ≡ ordered_all (cons_tree cs)) }
@@ -83,10 +85,11 @@ fn ordered_each(alloc: Global, cs: Cons) -> Result<Cons, AllocError>
     Ok(Cons { items })
 }
 
-// Adds the pieces of a row, as written.
+/// Adds the pieces of a row, as written.
 #[cycle(ordered)]
 fn row_pieces(alloc: Global, c: Con, pieces: &mut Vec<Piece>) -> Result<(), AllocError>
-    ensures { OnOk result (map piece_tree pieces.new.items ≡ map piece_tree pieces.old.items ++ ordered_pieces (con_tree c)) }
+    ensures { OnOk result
+        (map piece_tree pieces.new.items ≡ map piece_tree pieces.old.items ++ ordered_pieces (con_tree c)) }
 {
     match c {
         Con::Row(k, fields) => field_pieces(alloc, fields, &k, pieces),
@@ -102,7 +105,7 @@ fn row_pieces(alloc: Global, c: Con, pieces: &mut Vec<Piece>) -> Result<(), Allo
     }
 }
 
-// Adds each field of a literal as a literal of its own.
+/// Adds each field of a literal as a literal of its own.
 #[cycle(ordered)]
 fn field_pieces(
     alloc: Global,
@@ -110,7 +113,9 @@ fn field_pieces(
     k: &Kind,
     pieces: &mut Vec<Piece>,
 ) -> Result<(), AllocError>
-    ensures { OnOk result (map piece_tree pieces.new.items ≡ map piece_tree pieces.old.items ++ fields_apart (kind_tree k.now) (pairs_tree fields)) }
+    ensures { OnOk result
+        (map piece_tree pieces.new.items
+        ≡ map piece_tree pieces.old.items ++ fields_apart (kind_tree k.now) (pairs_tree fields)) }
 {
     for field in fields.items {
         let Pair {
@@ -125,8 +130,10 @@ fn field_pieces(
     Ok(())
 }
 
-fn single(alloc: Global, k: &Kind, field: Pair) -> Result<Con, AllocError>
-    ensures { IfOk result (λ c. con_tree c ≡ row (kind_tree k.now) (pair (pair_tree field).0 (pair_tree field).1 no_pairs)) }
+/// A field as a literal of its own.
+pub fn single(alloc: Global, k: &Kind, field: Pair) -> Result<Con, AllocError>
+    ensures { IfOk result
+        (λ c. con_tree c ≡ row (kind_tree k.now) (pair (pair_tree field).0 (pair_tree field).1 no_pairs)) }
 {
     let mut items = Vec::with_capacity(alloc, 1)?;
     items.push(field)?;
@@ -134,13 +141,14 @@ fn single(alloc: Global, k: &Kind, field: Pair) -> Result<Con, AllocError>
     Ok(Con::Row(kind, Pairs { items }))
 }
 
+/// Adds a piece.
 fn add_piece(alloc: Global, con: Con, pieces: &mut Vec<Piece>) -> Result<(), AllocError>
     ensures { OnOk result (map piece_tree pieces.new.items ≡ map piece_tree pieces.old.items ++ con_tree con ∷ []) }
 {
     Ok(pieces.push(Piece::new(alloc, con)?)?)
 }
 
-// The kind of the first piece, where that is a literal.
+/// The kind of the first piece, where that is a literal.
 fn first_kind(alloc: Global, c: &Con) -> Result<Kind, AllocError>
     ensures { IfOk result (λ k. kind_tree k ≡ leading_kind (con_tree c.now)) }
 {

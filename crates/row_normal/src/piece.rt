@@ -18,6 +18,7 @@ pub struct Piece {
 }
 
 impl Piece {
+    /// A piece, with that by which it is placed.
     pub fn new(alloc: Global, con: Con) -> Result<Piece, AllocError>
         ensures { IfOk result (λ p. con_tree p.con ≡ con_tree con) }
     {

@@ -73,6 +73,7 @@ pub fn same_con(a: &Con, b: &Con) -> bool
     }
 }
 
+/// Whether two lists of constructors are one.
 #[cycle(same_con)]
 fn same_each(cs: &Cons, ds: &Cons) -> bool
     ensures { result ≡ cns_eq (cons_tree cs.now) (cons_tree ds.now) }
@@ -88,6 +89,7 @@ fn same_each(cs: &Cons, ds: &Cons) -> bool
     true
 }
 
+/// Whether two lists of fields are one.
 #[cycle(same_con)]
 fn same_pairs(ps: &Pairs, qs: &Pairs) -> bool
     ensures { result ≡ prs_eq (pairs_tree ps.now) (pairs_tree qs.now) }
@@ -103,13 +105,16 @@ fn same_pairs(ps: &Pairs, qs: &Pairs) -> bool
     true
 }
 
+/// Whether two fields are one.
 #[cycle(same_con)]
 fn same_pair(p: &Pair, q: &Pair) -> bool
-    ensures { result ≡ (cn_eq (pair_tree p.now).0 (pair_tree q.now).0 && cn_eq (pair_tree p.now).1 (pair_tree q.now).1) }
+    ensures { result ≡ (cn_eq (pair_tree p.now).0 (pair_tree q.now).0
+        && cn_eq (pair_tree p.now).1 (pair_tree q.now).1) }
 {
     same_con(&p.name, &q.name) && same_con(&p.value, &q.value)
 }
 
+/// Whether two flags are one.
 fn same_flag(x: bool, y: bool) -> bool
     ensures { result ≡ flag_eq x y }
 {

@@ -1,0 +1,12 @@
+use Rattle.std.proofs.Common.{◌≡◌, ◌++◌, map, length}
+use Rattle.std.specs.Vec.Iter.{into_iter_items, into_iter_len}
+use Rattle.con_terms.specs.View.{con_tree, kind_tree, pair_tree}
+use Rattle.con_terms.specs.declared.con.Con.TheViews.{out-Pairs}
+use Rattle.row_normal.proofs.Each.{alone}
+use Rattle.row_normal.proofs.pieces.add_fields.Given as goal
+
+abbrev pub invariant-loop-field : goal.invariant-loop-field
+invariant-loop-field l =
+    (map con_tree l.pieces.items ++ map (λ p. alone (kind_tree l.k) (pair_tree p)) (into_iter_items l.field-iterator)
+    ≡ map con_tree l.initial.pieces.items ++ map (λ p. alone (kind_tree l.k) (pair_tree p)) (out-Pairs l.fn.fields).items.items)
+    × (into_iter_len l.field-iterator ≡ length (into_iter_items l.field-iterator))
