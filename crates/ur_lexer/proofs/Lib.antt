@@ -1,19 +1,8 @@
-pub mod CodeTokens
-pub mod CommentSteps
-pub mod Choices
-pub mod Best
-pub mod Settled
-pub mod Fronts
-pub mod Ends
+-- Steps in what has no fixed length.
+pub mod Steps
+-- The token at the front of a text.
+pub mod Front
+-- From what is found to the definition, and back.
 pub mod Meaning
-pub mod SomeReading
-pub mod Runs
-pub mod Symbols
-pub mod OneReading
+-- Whole texts.
 pub mod Readings
-pub mod Told
-pub mod RunSteps
-pub mod StringSteps
-pub mod EntitySteps
-pub mod Cuts
-pub mod Values

@@ -21,12 +21,14 @@ use Rattle.ur_lexer.specs.Strings.{string_token}
 -- a word of the table, or else a name of the kind
 abbrev pub named_token : Option Kind → Kind → Bytes → Found
 named_token (Some word) kind spelling = record { kind = word; content = Nothing; len = length spelling; turn = Stay }
-named_token None kind spelling = record { kind = kind; content = Characters spelling; len = length spelling; turn = Stay }
+named_token None kind spelling =
+    record { kind = kind; content = Characters spelling; len = length spelling; turn = Stay }
 
 -- the longest name at the front
 unfoldable pub name_token : Class → List (Bytes × Kind) → Kind → Bytes → Result Found LexFault
 name_token class table kind bytes =
-    let spelling = take (prefix_len (has class) bytes) bytes in Ok (named_token (word_kind table spelling) kind spelling)
+    let spelling =
+    take (prefix_len (has class) bytes) bytes in Ok (named_token (word_kind table spelling) kind spelling)
 
 abbrev pub integer_of : ℕ → ℕ → Option ℕ → Result Found LexFault
 integer_of at len (Some value) = Ok (record { kind = Integer; content = Number value; len = len; turn = Stay })

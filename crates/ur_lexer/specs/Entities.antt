@@ -7,12 +7,14 @@ use Rattle.ur_lexer.specs.Numbers.{number_of}
 
 -- the named entities, each with the character that it stands for
 abbrev pub entities : List (Bytes × ℕ)
-entities = (codes "&lt;", 60) ∷ (codes "&gt;", 62) ∷ (codes "&amp;", 38) ∷ (codes "&quot;", 34) ∷ (codes "&nbsp;", 160) ∷ []
+entities =
+    (codes "&lt;", 60) ∷ (codes "&gt;", 62) ∷ (codes "&amp;", 38) ∷ (codes "&quot;", 34) ∷ (codes "&nbsp;", 160) ∷ []
 
 -- the character of a named entity at the front, and its length
 abbrev pub named : List (Bytes × ℕ) → Bytes → Option (ℕ × ℕ)
 named [] bytes = None
-named (entry ∷ table) bytes = if starts_with nat_eq bytes entry.0 then Some (entry.1, length entry.0) else named table bytes
+named (entry ∷ table) bytes =
+    if starts_with nat_eq bytes entry.0 then Some (entry.1, length entry.0) else named table bytes
 
 -- a number that is a character's: below 0x110000 and no surrogate
 abbrev pub is_character : ℕ → Bool
@@ -32,4 +34,5 @@ numeric bytes =
 abbrev pub entity : Bytes → Option (ℕ × ℕ)
 entity [] = named entities []
 entity (a ∷ []) = named entities (a ∷ [])
-entity (a ∷ b ∷ bs) = if (a == 38) && (b == 35) then option_map (λ e. (e.0, e.1 + 2)) (numeric bs) else named entities (a ∷ b ∷ bs)
+entity (a ∷ b ∷ bs) =
+    if (a == 38) && (b == 35) then option_map (λ e. (e.0, e.1 + 2)) (numeric bs) else named entities (a ∷ b ∷ bs)

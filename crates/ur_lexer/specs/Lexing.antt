@@ -28,7 +28,8 @@ use Rattle.ur_lexer.specs.Where.{Where}
 -- ---- what a token is
 
 -- a name: its first byte begins one, all its bytes go on one. A word of the table has a kind of its own
-pub record IsName (begins goes_on : ℕ → Bool) (table : List (Bytes × Kind)) (kind : Kind) (bytes : Bytes) (token : Found) : Type 0 where
+pub record IsName (begins goes_on : ℕ → Bool) (table : List (Bytes × Kind)) (kind : Kind) (bytes : Bytes)
+    (token : Found) : Type 0 where
   pub some : 0 < token.len
   pub within : token.len ≤ length bytes
   pub first : begins (slice_index bytes 0) ≡ true
@@ -40,7 +41,8 @@ pub record IsInteger (bytes : Bytes) (token : Found) : Type 0 where
   pub some : 0 < token.len
   pub within : token.len ≤ length bytes
   pub all : list_all is_ascii_digit (take token.len bytes) ≡ true
-  pub is : token ≡ record { kind = Integer; content = Number (value_of (take token.len bytes)); len = token.len; turn = Stay }
+  pub is : token
+      ≡ record { kind = Integer; content = Number (value_of (take token.len bytes)); len = token.len; turn = Stay }
 
 -- a string: from its quote to the quote that closes it, and the characters that it stands for
 pub record IsString (bytes : Bytes) (token : Found) : Type 0 where
@@ -53,7 +55,8 @@ pub record IsString (bytes : Bytes) (token : Found) : Type 0 where
 -- a symbol: the bytes begin with the spelling of an entry of the table
 abbrev pub IsEntry : Bytes → Found → Bytes × Kind × Turn → Type 0
 IsEntry bytes token entry =
-    (0 < length entry.0) × (starts_with nat_eq bytes entry.0 ≡ true) × (token ≡ record { kind = entry.1; content = Nothing; len = length entry.0; turn = entry.2 })
+    (0 < length entry.0) × (starts_with nat_eq bytes entry.0 ≡ true)
+    × (token ≡ record { kind = entry.1; content = Nothing; len = length entry.0; turn = entry.2 })
 
 abbrev pub IsSymbol : List (Bytes × Kind × Turn) → Bytes → Found → Type 0
 IsSymbol [] bytes token = ⊥
@@ -67,7 +70,8 @@ pub record IsOpening (bytes : Bytes) (token : Found) : Type 0 where
   pub some : 0 < size
   pub within : 1 + size ≤ length bytes
   pub all : list_all is_tag_name_byte (take size (drop 1 bytes)) ≡ true
-  pub is : token ≡ record { kind = TagOpen; content = Characters (take size (drop 1 bytes)); len = size + 1; turn = EnterTag }
+  pub is : token
+      ≡ record { kind = TagOpen; content = Characters (take size (drop 1 bytes)); len = size + 1; turn = EnterTag }
 
 -- a closing tag: `</`, and what stands behind it
 pub record IsClosing (literal : Bool) (bytes : Bytes) (token : Found) : Type 0 where
@@ -82,16 +86,20 @@ pub record IsRun (bytes : Bytes) (token : Found) : Type 0 where
 
 -- the tokens that could begin at the front of the bytes, by the mode
 pub data Stands (here : Where) (bytes : Bytes) (token : Found) : Type 0 where
-  lower_name : here.mode ≡ Code → IsName begins_lower is_name_byte keywords LowerName bytes token → Stands here bytes token
-  upper_name : here.mode ≡ Code → IsName is_ascii_uppercase is_name_byte upper_words UpperName bytes token → Stands here bytes token
-  attribute_name : here.mode ≡ Tag → IsName is_ascii_lowercase is_attribute_name_byte [] AttributeName bytes token → Stands here bytes token
+  lower_name : here.mode ≡ Code → IsName begins_lower is_name_byte keywords LowerName bytes token
+      → Stands here bytes token
+  upper_name : here.mode ≡ Code → IsName is_ascii_uppercase is_name_byte upper_words UpperName bytes token
+      → Stands here bytes token
+  attribute_name : here.mode ≡ Tag → IsName is_ascii_lowercase is_attribute_name_byte [] AttributeName bytes token
+      → Stands here bytes token
   integer : has_spaces here.mode ≡ true → IsInteger bytes token → Stands here bytes token
   string : has_spaces here.mode ≡ true → IsString bytes token → Stands here bytes token
   symbol : here.mode ≡ Code → IsSymbol symbols bytes token → Stands here bytes token
   tag_symbol : here.mode ≡ Tag → IsSymbol tag_symbols bytes token → Stands here bytes token
   opening : here.mode ≡ Text → IsOpening bytes token → Stands here bytes token
   closing_tag : here.mode ≡ Text → IsClosing (in_literal here) bytes token → Stands here bytes token
-  brace : here.mode ≡ Text → slice_index bytes 0 ≡ 123 → token ≡ record { kind = LeftBrace; content = Nothing; len = 1; turn = EnterBrace } → Stands here bytes token
+  brace : here.mode ≡ Text → slice_index bytes 0 ≡ 123
+      → token ≡ record { kind = LeftBrace; content = Nothing; len = 1; turn = EnterBrace } → Stands here bytes token
   run_of_text : here.mode ≡ Text → IsRun bytes token → Stands here bytes token
 
 -- ---- which token begins at a place
@@ -128,15 +136,21 @@ pub data IsBlank (mode : Mode) (bytes : Bytes) (n : ℕ) : Type 0 where
 -- why nothing can be read at the front of the bytes, which stand at this place
 pub data IsFault (here : Where) (at : ℕ) (bytes : Bytes) (fault : LexFault) : Type 0 where
   -- a comment begins and the text ends in it
-  open_comment : at_comment here.mode bytes ≡ true → comment bytes ≡ None → fault ≡ OpenComment at → IsFault here at bytes fault
+  open_comment : at_comment here.mode bytes ≡ true → comment bytes ≡ None → fault ≡ OpenComment at
+      → IsFault here at bytes fault
   -- the longest token is an integer that is too large
-  too_large : (token : Found) → IsLongest here bytes token → (n : ℕ) → token.content ≡ Number n → 9223372036854775807 < n → fault ≡ IntTooLarge at → IsFault here at bytes fault
+  too_large : (token : Found) → IsLongest here bytes token → (n : ℕ) → token.content ≡ Number n
+      → 9223372036854775807 < n → fault ≡ IntTooLarge at → IsFault here at bytes fault
   -- a string begins and the text ends in it
-  open_text : NoBlank here.mode bytes → has_spaces here.mode ≡ true → 0 < length bytes → slice_index bytes 0 ≡ 34 → quoted (drop 1 bytes) ≡ open_ → fault ≡ OpenText at → IsFault here at bytes fault
+  open_text : NoBlank here.mode bytes → has_spaces here.mode ≡ true → 0 < length bytes → slice_index bytes 0 ≡ 34
+      → quoted (drop 1 bytes) ≡ open_ → fault ≡ OpenText at → IsFault here at bytes fault
   -- a string begins and has an unknown escape so many bytes behind its quote
-  bad_escape : NoBlank here.mode bytes → has_spaces here.mode ≡ true → 0 < length bytes → slice_index bytes 0 ≡ 34 → (n : ℕ) → quoted (drop 1 bytes) ≡ unknown n → fault ≡ BadChar (at + (1 + n)) → IsFault here at bytes fault
+  bad_escape : NoBlank here.mode bytes → has_spaces here.mode ≡ true → 0 < length bytes → slice_index bytes 0 ≡ 34
+      → (n : ℕ) → quoted (drop 1 bytes) ≡ unknown n → fault ≡ BadChar (at + (1 + n)) → IsFault here at bytes fault
   -- no token begins, and no string
-  bad_char : NoBlank here.mode bytes → 0 < length bytes → ((token : Found) → Stands here bytes token → ⊥) → (has_spaces here.mode ≡ true → slice_index bytes 0 ≡ 34 → ⊥) → fault ≡ BadChar at → IsFault here at bytes fault
+  bad_char : NoBlank here.mode bytes → 0 < length bytes → ((token : Found) → Stands here bytes token → ⊥)
+      → (has_spaces here.mode ≡ true → slice_index bytes 0 ≡ 34 → ⊥) → fault ≡ BadChar at
+      → IsFault here at bytes fault
 
 -- ---- a whole text
 
@@ -154,14 +168,17 @@ pub data Ending : Type 0 where
 abbrev pub IsCut : Where → ℕ → Bytes → List Piece → Ending → Type 0
 IsCut here at bytes [] at_end = bytes ≡ []
 IsCut here at bytes [] (at_fault fault) = IsFault here at bytes fault
-IsCut here at bytes (blank n ∷ pieces) ending = IsBlank here.mode bytes n × IsCut here (at + n) (drop n bytes) pieces ending
-IsCut here at bytes (word token ∷ pieces) ending = IsToken here bytes token × IsCut (turned token.turn here) (at + token.len) (drop token.len bytes) pieces ending
+IsCut here at bytes (blank n ∷ pieces) ending =
+    IsBlank here.mode bytes n × IsCut here (at + n) (drop n bytes) pieces ending
+IsCut here at bytes (word token ∷ pieces) ending =
+    IsToken here bytes token × IsCut (turned token.turn here) (at + token.len) (drop token.len bytes) pieces ending
 
 -- the tokens among the pieces, with their places
 abbrev pub tokens_of : ℕ → List Piece → List Token
 tokens_of at [] = []
 tokens_of at (blank n ∷ pieces) = tokens_of (at + n) pieces
-tokens_of at (word token ∷ pieces) = record { kind = token.kind; at = at; content = token.content } ∷ tokens_of (at + token.len) pieces
+tokens_of at (word token ∷ pieces) =
+    record { kind = token.kind; at = at; content = token.content } ∷ tokens_of (at + token.len) pieces
 
 -- the text has these tokens up to this ending
 pub record Lexes (text : Bytes) (tokens : List Token) (ending : Ending) : Type 0 where
@@ -173,15 +190,13 @@ pub record Lexes (text : Bytes) (tokens : List Token) (ending : Ending) : Type 0
 
 -- a text has one list of tokens and one ending
 abbrev pub TextsHaveOneReading : Type 0
-TextsHaveOneReading = (text : Bytes) (tokens others : List Token) (ending other : Ending) → Lexes text tokens ending → Lexes text others other → (tokens ≡ others) × (ending ≡ other)
+TextsHaveOneReading =
+    (text : Bytes) (tokens others : List Token) (ending other : Ending) → Lexes text tokens ending
+    → Lexes text others other → (tokens ≡ others) × (ending ≡ other)
 
 -- every text has one
 abbrev pub TextsHaveAReading : Type 0
 TextsHaveAReading = (text : Bytes) → (tokens : List Token) × (ending : Ending) × Lexes text tokens ending
-
--- the token at a place is as long as any that could begin there
-abbrev pub LongestTokenCounts : Type 0
-LongestTokenCounts = (here : Where) (bytes : Bytes) (token other : Found) → IsToken here bytes token → Stands here bytes other → other.len ≤ token.len
 
 -- what a told fault means: the reading of the text ends there. Want of memory means nothing of the text
 abbrev pub IsTold : Bytes → LexFault → Type 0

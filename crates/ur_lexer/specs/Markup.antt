@@ -41,8 +41,10 @@ run bytes = run_from 0 bytes
 
 -- what stands at the front of a run, and what is left to read behind it
 abbrev pub IsRunPiece : RunPiece → Bytes → Type 0
-IsRunPiece (Plain n) bytes = (0 < n) × IsCharBoundary bytes n × (run_from 0 bytes ≡ joined (take n bytes) n (run_from 0 (drop n bytes)))
-IsRunPiece (Entity c n) bytes = (0 < n) × IsCharBoundary bytes n × (run_from 0 bytes ≡ joined (encode_utf8 c) n (run_from 0 (drop n bytes)))
+IsRunPiece (Plain n) bytes =
+    (0 < n) × IsCharBoundary bytes n × (run_from 0 bytes ≡ joined (take n bytes) n (run_from 0 (drop n bytes)))
+IsRunPiece (Entity c n) bytes =
+    (0 < n) × IsCharBoundary bytes n × (run_from 0 bytes ≡ joined (encode_utf8 c) n (run_from 0 (drop n bytes)))
 IsRunPiece End bytes = run_from 0 bytes ≡ ([], 0)
 
 -- the front of a tag, behind its `<`
@@ -60,7 +62,13 @@ closing_end bytes =
 abbrev pub closing_of : Bool → Bytes → Option ℕ → Option Found
 closing_of in_literal name None = None
 closing_of in_literal name (Some end) =
-    if in_literal && pointwise nat_eq name (codes "xml") then Some (record { kind = XmlClose; content = Nothing; len = length name + end + 2; turn = LeaveElement })
+    if in_literal && pointwise nat_eq name (codes "xml") then Some (record {
+      kind =
+          XmlClose;
+      content = Nothing;
+      len = length name + end + 2;
+      turn = LeaveElement;
+    })
     else Some (record { kind = TagClose; content = Characters name; len = length name + end + 2; turn = LeaveElement })
 
 -- a closing tag, behind its `</`: a name, and its end. Where no element is open `xml` closes the XML literal
@@ -87,7 +95,9 @@ mark_token in_literal bytes at =
     else Err (BadChar at)))
 
 abbrev pub run_of : ℕ → Bytes × ℕ → Result Found LexFault
-run_of at run = if run.1 == 0 then Err (BadChar at) else Ok (record { kind = TextRun; content = Characters run.0; len = run.1; turn = Stay })
+run_of at run =
+    if run.1 == 0 then Err (BadChar at) else Ok
+    (record { kind = TextRun; content = Characters run.0; len = run.1; turn = Stay })
 
 unfoldable pub run_token : Bytes → ℕ → Result Found LexFault
 run_token bytes at = run_of at (run bytes)

@@ -14,7 +14,9 @@ use Rattle.ur_lexer.specs.Bytes.{Bytes}
 -- the character that an escape stands for, by the byte behind its backslash
 abbrev pub escaped : ℕ → Option ℕ
 escaped b =
-    if b == 34 then Some 34 else (if b == 92 then Some 92 else (if b == 110 then Some 10 else (if b == 114 then Some 13 else (if b == 116 then Some 9 else None))))
+    if b == 34 then Some 34 else
+    (if b == 92 then Some 92 else
+    (if b == 110 then Some 10 else (if b == 114 then Some 13 else (if b == 116 then Some 9 else None))))
 
 -- what stands behind the quote that opens a string: its characters and how many bytes it takes with the quote
 -- that closes it; or an unknown escape so many bytes on; or the end of the text before it is closed
@@ -42,7 +44,8 @@ quoted (b ∷ c ∷ bs) =
     else behind (b ∷ []) 1 (quoted (c ∷ bs)))
 
 abbrev pub string_of : ℕ → Quoted → Result Found LexFault
-string_of at (closed content n) = Ok (record { kind = StringLiteral; content = Characters content; len = 1 + n; turn = Stay })
+string_of at (closed content n) =
+    Ok (record { kind = StringLiteral; content = Characters content; len = 1 + n; turn = Stay })
 string_of at (unknown n) = Err (BadChar (at + (1 + n)))
 string_of at open_ = Err (OpenText at)
 
@@ -52,8 +55,10 @@ string_token bytes at = string_of at (quoted (drop 1 bytes))
 
 -- what stands at the front inside a string, and what is left to read behind it
 abbrev pub IsStringPiece : StringPiece → Bytes → Type 0
-IsStringPiece (Plain n) bytes = (0 < n) × IsCharBoundary bytes n × (quoted bytes ≡ behind (take n bytes) n (quoted (drop n bytes)))
-IsStringPiece (Escape c) bytes = IsCharBoundary bytes 2 × (quoted bytes ≡ behind (encode_utf8 c) 2 (quoted (drop 2 bytes)))
+IsStringPiece (Plain n) bytes =
+    (0 < n) × IsCharBoundary bytes n × (quoted bytes ≡ behind (take n bytes) n (quoted (drop n bytes)))
+IsStringPiece (Escape c) bytes =
+    IsCharBoundary bytes 2 × (quoted bytes ≡ behind (encode_utf8 c) 2 (quoted (drop 2 bytes)))
 IsStringPiece Unknown bytes = (0 < length bytes) × (quoted bytes ≡ unknown 0)
 IsStringPiece Close bytes = (0 < length bytes) × (quoted bytes ≡ closed [] 1)
 IsStringPiece Open bytes = quoted bytes ≡ open_

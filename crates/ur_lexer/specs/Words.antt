@@ -146,4 +146,5 @@ stands symbol bytes = not (length symbol == 0) && starts_with nat_eq bytes symbo
 -- the mode
 abbrev pub symbol_at : List (Bytes × Kind × Turn) → Bytes → Option (Kind × ℕ × Turn)
 symbol_at [] bytes = None
-symbol_at (entry ∷ table) bytes = if stands entry.0 bytes then Some (entry.1, length entry.0, entry.2) else symbol_at table bytes
+symbol_at (entry ∷ table) bytes =
+    if stands entry.0 bytes then Some (entry.1, length entry.0, entry.2) else symbol_at table bytes

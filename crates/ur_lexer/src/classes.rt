@@ -22,6 +22,7 @@ pub enum Class {
     InText,
 }
 
+/// Whether the byte is a space, a tab or a line end.
 pub fn is_space(byte: u8) -> bool
     ensures { result ≡ spec.is_space byte }
 {

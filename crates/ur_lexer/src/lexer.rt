@@ -90,7 +90,8 @@ pub fn lex(alloc: Global, text: &str) -> Result<Tokens, LexFault>
     // What has tokens is refused only for want of memory.
     ensures no_fault { (tokens : List Token) → Lexes text.now tokens at_end → IfErr result (λ told. told ≡ Memory) }
     // What has a fault is refused with it, or for want of memory.
-    ensures no_tokens { (tokens : List Token) (fault : LexFault) → Lexes text.now tokens (at_fault fault) → IsErrAnd result (λ told. (told ≡ fault) ⊎ (told ≡ Memory)) }
+    ensures no_tokens { (tokens : List Token) (fault : LexFault) → Lexes text.now tokens (at_fault fault)
+        → IsErrAnd result (λ told. (told ≡ fault) ⊎ (told ≡ Memory)) }
 {
     let mut tokens = Tokens::new(alloc, text.len() as u32);
     let mut state = State::new(alloc);

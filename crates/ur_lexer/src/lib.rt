@@ -18,6 +18,3 @@ pub mod words;
 
 pub use fault::LexFault;
 pub use lexer::lex;
-
-#[cfg(test)]
-mod tests;

@@ -6,7 +6,7 @@ use Rattle.ur_lexer.specs.Bytes.{begins_lower}
 use Rattle.ur_lexer.specs.Results.{Gives}
 use Rattle.ur_lexer.specs.Code.{symbol_token}
 use Rattle.ur_lexer.specs.Words.{symbols}
-use Rattle.ur_lexer.proofs.CodeTokens.{at_lower, at_upper, at_symbol}
+use Rattle.ur_lexer.proofs.Front.CodeTokens.{at_lower, at_upper, at_symbol}
 use Rattle.ur_lexer.proofs.code.code_token.Goals as goal
 
 pub returns-then-begins_lower : goal.returns-then-begins_lower

@@ -1,4 +1,4 @@
-use Rattle.ur_lexer.proofs.Cuts.{cut_narrow}
+use Rattle.ur_lexer.proofs.Readings.Cuts.{cut_narrow}
 use Rattle.ur_lexer.proofs.code.name_token.Goals as goal
 
 pub spelling-requires : goal.spelling-requires

@@ -1,6 +1,6 @@
 use Rattle.std.proofs.Common.{rules, ◌≡◌, ◌<◌, ◌≤◌, length, ◌+◌, ◌-◌, true, false, arith, subst, sym, ap, ◌∙◌, option_map, length-drop, add-zero, Some}
 use Rattle.ur_lexer.specs.Comments.{opens, closes, inside, comment}
-use Rattle.ur_lexer.proofs.CommentSteps.{inside_opens, inside_closes, inside_other, inside_end, inside_out, on}
+use Rattle.ur_lexer.proofs.Steps.CommentSteps.{inside_opens, inside_closes, inside_other, inside_end, inside_out, on}
 use Rattle.ur_lexer.proofs.comments.comment_len.Goals as goal
 
 pub inside-preserved-then-opens : goal.inside-preserved-then-opens

@@ -1,4 +1,4 @@
-use Rattle.ur_lexer.proofs.SomeReading.{some_reading}
+use Rattle.ur_lexer.proofs.Readings.SomeReading.{some_reading}
 use Rattle.ur_lexer.proofs.laws.texts_have_a_reading.Goals as goal
 
 pub returns : goal.returns

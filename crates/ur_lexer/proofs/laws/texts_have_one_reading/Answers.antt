@@ -1,4 +1,4 @@
-use Rattle.ur_lexer.proofs.OneReading.{one_reading}
+use Rattle.ur_lexer.proofs.Readings.OneReading.{one_reading}
 use Rattle.ur_lexer.proofs.laws.texts_have_one_reading.Goals as goal
 
 pub returns : goal.returns

@@ -2,9 +2,9 @@ use Rattle.std.proofs.Common.{◌≡◌, ◌≤◌, ◌+◌, ◌-◌, List, [], 
 use Rattle.std.proofs.lemmas.Result.{err_from_is_err_and}
 use Rattle.surface_tree.specs.declared.token.Token.{Token}
 use Rattle.ur_lexer.specs.Lexing.{IsBlank, IsToken}
-use Rattle.ur_lexer.proofs.Ends.{blank_cut, token_cut}
-use Rattle.ur_lexer.proofs.Meaning.{ahead_end, ahead_blank, ahead_word}
-use Rattle.ur_lexer.proofs.Readings.{grows_start, grows_blank, grows_word, lexes_end, told, only_memory, that_fault, not_both}
+use Rattle.ur_lexer.proofs.Readings.Ends.{blank_cut, token_cut}
+use Rattle.ur_lexer.proofs.Meaning.Found.{ahead_end, ahead_blank, ahead_word}
+use Rattle.ur_lexer.proofs.Readings.Growing.{grows_start, grows_blank, grows_word, lexes_end, told, only_memory, that_fault, not_both}
 use Rattle.ur_lexer.proofs.lexer.lex.Goals as goal
 
 one_more : (xs ys : List Token) (t : Token) → ys ≡ xs ++ t ∷ [] → length ys ≡ length xs + 1

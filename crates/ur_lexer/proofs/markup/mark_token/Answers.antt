@@ -1,5 +1,5 @@
 use Rattle.std.proofs.Common.{rules, ◌≡◌, get_or, arith, ap, length}
-use Rattle.ur_lexer.proofs.Cuts.{cut_behind}
+use Rattle.ur_lexer.proofs.Readings.Cuts.{cut_behind}
 use Rattle.ur_lexer.proofs.markup.mark_token.Goals as goal
 
 pub after-requires : goal.after-requires

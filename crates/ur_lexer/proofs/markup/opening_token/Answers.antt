@@ -1,5 +1,5 @@
 use Rattle.ur_lexer.specs.declared.classes.Class.TheVariants.{TagName}
-use Rattle.ur_lexer.proofs.Cuts.{cut_narrow}
+use Rattle.ur_lexer.proofs.Readings.Cuts.{cut_narrow}
 use Rattle.ur_lexer.proofs.markup.opening_token.Goals as goal
 
 pub spelling-requires : goal.spelling-requires

@@ -3,8 +3,8 @@ use Rattle.std.specs.List.{prefix_len}
 use Rattle.ur_lexer.specs.Bytes.{is_in_text}
 use Rattle.ur_lexer.specs.Comments.{opens}
 use Rattle.ur_lexer.specs.Entities.{entity}
-use Rattle.ur_lexer.proofs.Cuts.{cut_text}
-use Rattle.ur_lexer.proofs.RunSteps.{run_plain, run_bracket, run_entity}
+use Rattle.ur_lexer.proofs.Readings.Cuts.{cut_text}
+use Rattle.ur_lexer.proofs.Steps.RunSteps.{run_plain, run_bracket, run_entity}
 use Rattle.ur_lexer.proofs.markup.run_piece.Goals as goal
 
 pub returns-then-plain-gt0 : goal.returns-then-plain-gt0

@@ -1,6 +1,6 @@
 use Rattle.std.proofs.Common.{◌≡◌, suc, ◌+◌, ◌-◌, ◌*◌, drop, get_or, arith, sym, ap, ◌∙◌, Some}
 use Rattle.ur_lexer.specs.Numbers.{value_from}
-use Rattle.ur_lexer.proofs.Values.{value_grows, value_step, value_end, number_small, number_large}
+use Rattle.ur_lexer.proofs.Front.Values.{value_grows, value_step, value_end, number_small, number_large}
 use Rattle.ur_lexer.proofs.numbers.number.Goals as goal
 
 pub returns-then-from-next-clause-value : goal.returns-then-from-next-clause-value

@@ -1,8 +1,8 @@
 use Rattle.std.proofs.Common.{◌≡◌, length, arith, ap}
 use Rattle.std.specs.List.{prefix_len}
 use Rattle.ur_lexer.specs.Bytes.{is_in_string}
-use Rattle.ur_lexer.proofs.Cuts.{cut_string}
-use Rattle.ur_lexer.proofs.StringSteps.{quoted_plain, quoted_escape}
+use Rattle.ur_lexer.proofs.Readings.Cuts.{cut_string}
+use Rattle.ur_lexer.proofs.Steps.StringSteps.{quoted_plain, quoted_escape}
 use Rattle.ur_lexer.proofs.strings.string_piece.Goals as goal
 
 pub returns-then-plain-gt0 : goal.returns-then-plain-gt0

@@ -1,8 +1,8 @@
 use Rattle.std.proofs.Common.{◌≡◌, ◌<◌, ◌≤◌, ◌-◌, ◌++◌, ℕ, List, length, take, drop, arith, ap, ◌∙◌, length-drop}
 use Rattle.std.specs.Char.{encode_utf8}
 use Rattle.ur_lexer.specs.Strings.{quoted}
-use Rattle.ur_lexer.proofs.Cuts.{cut_behind}
-use Rattle.ur_lexer.proofs.StringSteps.{behind_on, behind_first}
+use Rattle.ur_lexer.proofs.Readings.Cuts.{cut_behind}
+use Rattle.ur_lexer.proofs.Steps.StringSteps.{behind_on, behind_first}
 use Rattle.ur_lexer.proofs.strings.string_token.Goals as goal
 
 pub after-rest-requires : goal.after-rest-requires
