@@ -4,7 +4,7 @@ use Rattle.std.specs.Prelude.{ℕ, zero, suc, ◌==◌, List, [], ◌∷◌, ◌
 use Rattle.con_terms.specs.Trees.{Cn, var, basic, arrow, record_of, name, no_pairs, pair}
 use Rattle.con_terms.specs.Substitution.{shift, subst}
 use Rattle.con_terms.specs.declared.place.Place.{Place}
-use Rattle.core_terms.specs.Names.{bool_name, option_name, list_name, first_name, second_name, false_name, true_name, none_name, some_name, nil_name, cons_name}
+use Rattle.core_terms.specs.Names.{bool_name, option_name, list_name, first_name, second_name, false_name, true_name, none_name, some_name, nil_name, cons_name, parameter_name}
 use Rattle.core_terms.specs.Types.{at_types, type_row, for_types}
 use Rattle.core_terms.specs.Trees.{Cd, Dt, arity}
 
@@ -19,18 +19,14 @@ constructor_of n held = record { place = nowhere; name = n; holds = held }
 abbrev pub basis_datatype : ℕ → List ℕ → List Cd → Dt
 basis_datatype s xs cs = record { path = []; place = nowhere; home = None; name = s; symbol = s; parameters = xs; constructors = cs }
 
--- what the one parameter of option and of list is called
-abbrev pub type_parameter : ℕ
-type_parameter = first_name
-
 -- bool = False | True, option t = None | Some of t, list t = Nil | Cons of t * list t
 abbrev pub basis_datatypes : List Dt
 basis_datatypes =
     basis_datatype bool_name []
     (constructor_of false_name None ∷ constructor_of true_name None ∷ [])
-    ∷ basis_datatype option_name (type_parameter ∷ [])
+    ∷ basis_datatype option_name (parameter_name ∷ [])
     (constructor_of none_name None ∷ constructor_of some_name (Some (var 0)) ∷ [])
-    ∷ basis_datatype list_name (type_parameter ∷ [])
+    ∷ basis_datatype list_name (parameter_name ∷ [])
     (constructor_of nil_name None ∷ constructor_of cons_name (Some (record_of (type_row (pair (name first_name) (var 0) (pair (name second_name) (at_types (basic list_name) (var 0 ∷ [])) no_pairs))))) ∷ [])
     ∷ []
 

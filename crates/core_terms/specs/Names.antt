@@ -113,6 +113,10 @@ nil_name = 33
 abbrev pub cons_name : ℕ
 cons_name = 34
 
+-- what the one parameter of option and of list is called
+abbrev pub parameter_name : ℕ
+parameter_name = 35
+
 -- the texts of these symbols, in the order of their numbers
 abbrev pub basis_texts : List (List ℕ)
 basis_texts =
@@ -124,4 +128,5 @@ basis_texts =
     codes "Html" ∷ codes "Body" ∷ codes "Head" ∷ codes "Table" ∷ codes "Tr" ∷ codes "Form" ∷
     codes "1" ∷ codes "2" ∷
     codes "Value" ∷ codes "Secure" ∷
-    codes "False" ∷ codes "True" ∷ codes "None" ∷ codes "Some" ∷ codes "Nil" ∷ codes "Cons" ∷ []
+    codes "False" ∷ codes "True" ∷ codes "None" ∷ codes "Some" ∷ codes "Nil" ∷ codes "Cons" ∷
+    codes "t" ∷ []

@@ -6,8 +6,8 @@ use Rattle.con_terms.specs.declared.place.Place.{Place}
 use Rattle.core_terms.specs.declared.exp.Sigil.{Sigil}
 use Rattle.core_terms.specs.declared.exp.ConOrigin.{ConOrigin}
 use Rattle.core_terms.specs.declared.basis.BasisName.{BasisName}
-use Rattle.core_terms.specs.declared.markup.TagName.{TagName}
-use Rattle.core_terms.specs.declared.markup.AttrName.{AttrName}
+use Rattle.xml_trees.specs.declared.source_name.TagName.{TagName}
+use Rattle.xml_trees.specs.declared.source_name.AttrName.{AttrName}
 
 mutual
   -- patterns

@@ -5,7 +5,7 @@ use Rattle.con_terms.specs.View.{kind_tree, con_tree, pairs_tree}
 use Rattle.con_terms.specs.declared.place.Place.{Place}
 use Rattle.con_terms.specs.declared.con.Con.{Con}
 use Rattle.core_terms.specs.Trees.{Pt, pattern, Pf, any, binds, is_number, is_text, is_bare, is_holding, has_fields, annotated, Pfs, no_pat_fields, pat_field, Ex, node, Fo, bound, top, foreign, basis, fold_over, number, text, built, fn, fn_con, fn_guard, call, let_in, case_of, ascribed, fields_of, select, concat, without, without_row, folder, element, literal, sql, Sk, blank, Its, no_items, with_term, with_con, with_guard, Nms, no_named, named, Los, no_locals, local_val, local_rec, Brs, no_branches, branch, Fds, no_fields, field, El, tagged, Ats, no_attributes, attribute, Xs, no_nodes, a_node, Exs, no_exps, an_exp, It, a_term, a_con, a_guard, Lo, a_val, a_rec, Cd, Dt, Th, a_table, a_sequence, a_cookie, a_given, De, val, vals, con_is, datatype, thing, Ru, Pg}
-use Rattle.core_terms.specs.declared.markup.AttrName.{AttrName}
+use Rattle.xml_trees.specs.declared.source_name.AttrName.{AttrName}
 use Rattle.core_terms.specs.declared.pat.Pat.{Pat}
 use Rattle.core_terms.specs.declared.pat.PatForm.{PatForm}
 use Rattle.core_terms.specs.declared.pat.PatForm.TheOpen.{PatForm-F, Pat-F, PatField-F, PatFields-F}

@@ -4,7 +4,6 @@
 //! in the source. A flag beside a type or a kind says whether the source has it; a flag beside an item
 //! or a term whether it was inserted.
 use crate::basis::BasisName;
-use crate::markup::{AttrName, TagName};
 use crate::pat::Pat;
 use crate::sql::Skeleton;
 use con_terms::con::{Con, Pairs};
@@ -12,6 +11,7 @@ use con_terms::kind::Kind;
 use con_terms::place::Place;
 use con_terms::symbol::Sym;
 use table_rows::Text;
+use xml_trees::{AttrName, TagName};
 
 /// A term. Contracts see it as the tree `exp_tree`.
 #[cycle(exp)]

@@ -8,7 +8,6 @@ pub mod decl;
 pub mod exp;
 pub mod laws;
 pub mod lists;
-pub mod markup;
 pub mod names;
 pub mod pat;
 pub mod program;
@@ -23,8 +22,8 @@ pub use exp::{
     Attribute, Attributes, Branch, Branches, ConOrigin, Element, Exp, Exps, Field, Fields, Form,
     InputName, Item, Items, Literal, Local, Locals, Named, NamedList, Node, Nodes, Sigil,
 };
-pub use markup::{AttrName, TagName};
 pub use names::Symbols;
 pub use pat::{Pat, PatField, PatFields, PatForm, Pats};
 pub use program::{Exports, FolderName, Folders, ForeignName, Foreigns, Program, Rule, Rules};
 pub use sql::Skeleton;
+pub use xml_trees::{AttrName, TagName};

@@ -6,7 +6,7 @@ use Rattle.con_terms.specs.declared.place.Place.{Place}
 use Rattle.row_normal.specs.Ordered.{ordered, ordered_pieces}
 use Rattle.kind_rules.specs.Flaws.{Flw}
 use Rattle.kind_rules.specs.Compared.{comparison_units, normal_forms}
-use Rattle.core_terms.specs.declared.markup.TagName.{TagName}
+use Rattle.xml_trees.specs.declared.source_name.TagName.{TagName}
 use Rattle.core_terms.specs.Trees.{Pt, Ex, node, bound, top, foreign, basis, fold_over, number, text, built, fn, fn_con, fn_guard, call, let_in, case_of, ascribed, fields_of, select, concat, without, without_row, folder, element, Its, no_items, with_term, with_con, with_guard, Nms, no_named, named, Los, no_locals, local_val, local_rec, Brs, no_branches, branch, Fds, no_fields, field, tagged, Ats, no_attributes, attribute, Xs, no_nodes, a_node, Cd, Dt, literal, sql}
 use Rattle.core_terms.specs.Types.{type_row}
 use Rattle.core_terms.specs.Datatypes.{datatype_of}

@@ -3,8 +3,8 @@ use Rattle.std.proofs.Common.{◌≡◌, Bool, true, false, Option, Some, None, 
 use Rattle.con_terms.specs.Trees.{types, names, row_of, Cn, cat}
 use Rattle.row_normal.specs.Ordered.{ordered}
 use Rattle.con_terms.specs.declared.place.Place.{Place}
-use Rattle.core_terms.specs.declared.markup.TagName.{TagName}
-use Rattle.core_terms.specs.declared.markup.AttrName.TheVariants as attr
+use Rattle.xml_trees.specs.declared.source_name.TagName.{TagName}
+use Rattle.xml_trees.specs.declared.source_name.AttrName.TheVariants as attr
 use Rattle.core_terms.specs.Trees.{Ex, node, element, tagged, Ats, Xs, no_nodes, a_node}
 use Rattle.core_terms.specs.Types.{no_types}
 use Rattle.core_typing.specs.Scopes.{Sc, normal_of}

@@ -5,9 +5,9 @@ use Rattle.con_terms.specs.Trees.{types, names, Cn, arrow, poly, guarded, cat, P
 use Rattle.con_terms.specs.Substitution.{subst as put}
 use Rattle.con_terms.specs.declared.place.Place.{Place}
 use Rattle.row_normal.specs.Ordered.{ordered}
-use Rattle.core_terms.specs.declared.markup.TagName.{TagName}
-use Rattle.core_terms.specs.declared.markup.AttrName.{AttrName}
-use Rattle.core_terms.specs.declared.markup.AttrName.TheVariants as attr
+use Rattle.xml_trees.specs.declared.source_name.TagName.{TagName}
+use Rattle.xml_trees.specs.declared.source_name.AttrName.{AttrName}
+use Rattle.xml_trees.specs.declared.source_name.AttrName.TheVariants as attr
 use Rattle.core_terms.specs.Trees.{Pt, Ex, node, bound, top, foreign, basis, fold_over, number, text, built, fn, fn_con, fn_guard, call, let_in, case_of, ascribed, fields_of, select, concat, without, without_row, folder, element, Its, with_term, with_con, with_guard, Nms, named, Los, local_val, local_rec, Brs, branch, Fds, field, Ats, no_attributes, attribute, Xs, a_node, literal, sql, no_nodes}
 use Rattle.core_terms.specs.Types.{xml_of}
 use Rattle.core_typing.specs.Scopes.{Sc, under, normal_of}

@@ -8,9 +8,9 @@ use Rattle.row_normal.specs.Ordered.{ordered_pieces}
 use Rattle.row_normal.specs.NormalForm.{nf}
 use Rattle.kind_rules.specs.Flaws.{Flw}
 use Rattle.kind_rules.specs.Compared.{comparison_units, normal_forms, with_second, forms_flaw}
-use Rattle.core_terms.specs.declared.markup.TagName.{TagName}
-use Rattle.core_terms.specs.declared.markup.TagName.TheVariants as tag
-use Rattle.core_terms.specs.declared.markup.AttrName.{AttrName}
+use Rattle.xml_trees.specs.declared.source_name.TagName.{TagName}
+use Rattle.xml_trees.specs.declared.source_name.TagName.TheVariants as tag
+use Rattle.xml_trees.specs.declared.source_name.AttrName.{AttrName}
 use Rattle.core_terms.specs.Trees.{Pt, Pfs, Ex, Its, Nms, Los, Brs, Fds, El, Ats, Xs, Cd, Dt}
 use Rattle.core_terms.specs.Types.{type_row, xml_of}
 use Rattle.core_terms.specs.Datatypes.{held_at}

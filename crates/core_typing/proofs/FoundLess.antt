@@ -1,7 +1,7 @@
 -- What is found with more asked of cover is found with less.
 use Rattle.std.specs.Prelude.{List}
 use Rattle.con_terms.specs.Trees.{Cn, Prs}
-use Rattle.core_terms.specs.declared.markup.TagName.{TagName}
+use Rattle.xml_trees.specs.declared.source_name.TagName.{TagName}
 use Rattle.core_terms.specs.Trees.{Pt, Ex, Its, Nms, Los, Brs, Fds, El, Ats, Xs, Dt}
 use Rattle.core_typing.specs.Asks.{CoverAsked}
 use Rattle.core_typing.specs.Scopes.{Sc}

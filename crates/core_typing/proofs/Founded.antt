@@ -4,7 +4,7 @@ use Rattle.con_terms.specs.Equal.{Equal, same, back, step, in_app, in_record, in
 use Rattle.con_terms.specs.Apart.{Guards, Apart, apart}
 use Rattle.row_normal.specs.Ordered.{ordered}
 use Rattle.row_normal.proofs.OrderEqual.{ordered_equal}
-use Rattle.core_terms.specs.declared.markup.TagName.{TagName}
+use Rattle.xml_trees.specs.declared.source_name.TagName.{TagName}
 use Rattle.core_terms.specs.Trees.{Ex, Its, Nms, Los, Brs, Fds, El, Ats, Xs}
 use Rattle.core_terms.specs.Types.{one_field, xml_of}
 use Rattle.core_typing.specs.Scopes.{Sc}

@@ -10,8 +10,8 @@ use Rattle.con_terms.specs.Kinded.{Scope, bind, assume, Kinded}
 use Rattle.row_normal.proofs.Options.{option_map_from}
 use Rattle.kind_rules.proofs.Guarded.{one_guard, all_equal, Alike, apart_too, assuming, kinded_too}
 use Rattle.kind_rules.proofs.Guarded as guarded
-use Rattle.core_terms.specs.declared.markup.TagName.{TagName}
-use Rattle.core_terms.specs.declared.markup.AttrName.{AttrName}
+use Rattle.xml_trees.specs.declared.source_name.TagName.{TagName}
+use Rattle.xml_trees.specs.declared.source_name.AttrName.{AttrName}
 use Rattle.core_terms.specs.Trees.{Pt, Pfs, Ex, Its, Nms, Los, Brs, Fds, El, Ats, Xs, Cd, Dt}
 use Rattle.core_terms.specs.Datatypes.{datatype_of}
 use Rattle.core_typing.specs.Scopes.{Sc, under, under_con, under_guard}

@@ -37,3 +37,5 @@ pub mod TypeKinds
 pub mod AcceptedScopes
 pub mod KindsKept
 pub mod Containing
+pub mod OneShape
+pub mod OneSite

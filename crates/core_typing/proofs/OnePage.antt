@@ -66,13 +66,13 @@ no_folders : FoldersDiffer one_page.folders
 no_folders i j f g h k e = absurd (no_folder_there i f h)
 
 -- its names have texts
-html_names : NamesThere 36 (unit_row (html_context ∷ []))
+html_names : NamesThere 37 (unit_row (html_context ∷ []))
 html_names = (omega arith, tt, tt)
 
-page_names : NamesThere 36 (transaction_of page_type)
+page_names : NamesThere 37 (transaction_of page_type)
 page_names = (tt, (((tt, html_names), tt), tt))
 
-term_fits : FormFits 36 (call (said (basis Return)) Plain (with_added page_type (with_term empty_body no_items)))
+term_fits : FormFits 37 (call (said (basis Return)) Plain (with_added page_type (with_term empty_body no_items)))
 term_fits = (tt, (page_names.1, ((tt, html_names, tt, tt, tt), tt)))
 
 exported : All (λ i. i < 1) (0 ∷ [])

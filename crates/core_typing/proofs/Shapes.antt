@@ -4,8 +4,8 @@ use Rattle.con_terms.specs.Trees.{Cn, var, basic, arrow, poly, guarded, record_o
 use Rattle.con_terms.specs.declared.place.Place.{Place}
 use Rattle.core_terms.specs.declared.basis.BasisName.{BasisName}
 use Rattle.core_terms.specs.declared.basis.BasisName.TheVariants as value
-use Rattle.core_terms.specs.declared.markup.AttrName.{AttrName}
-use Rattle.core_terms.specs.declared.markup.AttrName.TheVariants as attr
+use Rattle.xml_trees.specs.declared.source_name.AttrName.{AttrName}
+use Rattle.xml_trees.specs.declared.source_name.AttrName.TheVariants as attr
 use Rattle.core_terms.specs.Trees.{Ex, node, bound, top, foreign, basis, fold_over, number, text, built, fn, fn_con, fn_guard, call, let_in, case_of, ascribed, fields_of, select, concat, without, without_row, folder, element, Its, literal, sql}
 use Rattle.core_typing.specs.Typed.{IsWords, of_cdata, of_txt}
 use Rattle.core_typing.specs.Own.{IsFunction, IsPoly, IsGuarded, IsRecord}
@@ -113,6 +113,15 @@ words_of p q a b s value.Nextval is = inr (λ z. elim z [ ])
 words_of p q a b s value.GetCookie is = inr (λ z. elim z [ ])
 words_of p q a b s value.SetCookie is = inr (λ z. elim z [ ])
 words_of p q a b s value.ClearCookie is = inr (λ z. elim z [ ])
+words_of p q a b s value.Query is = inr (λ z. elim z [ ])
+words_of p q a b s value.QueryX is = inr (λ z. elim z [ ])
+words_of p q a b s value.OneRow is = inr (λ z. elim z [ ])
+words_of p q a b s value.OneOrNoRows is = inr (λ z. elim z [ ])
+words_of p q a b s value.Dml is = inr (λ z. elim z [ ])
+words_of p q a b s value.Nextval is = inr (λ z. elim z [ ])
+words_of p q a b s value.GetCookie is = inr (λ z. elim z [ ])
+words_of p q a b s value.SetCookie is = inr (λ z. elim z [ ])
+words_of p q a b s value.ClearCookie is = inr (λ z. elim z [ ])
 words_of p q a b s value.NumInt is = inr (λ z. elim z [ ])
 words_of p q a b s value.ShowInt is = inr (λ z. elim z [ ])
 words_of p q a b s value.ShowString is = inr (λ z. elim z [ ])
@@ -123,6 +132,9 @@ words_of p q a b s value.EqBool is = inr (λ z. elim z [ ])
 words_of p q a b s value.OrdInt is = inr (λ z. elim z [ ])
 words_of p q a b s value.OrdString is = inr (λ z. elim z [ ])
 words_of p q a b s value.OrdBool is = inr (λ z. elim z [ ])
+words_of p q a b s value.SqlInt is = inr (λ z. elim z [ ])
+words_of p q a b s value.SqlString is = inr (λ z. elim z [ ])
+words_of p q a b s value.SqlBool is = inr (λ z. elim z [ ])
 words_of p q a b s value.SqlInt is = inr (λ z. elim z [ ])
 words_of p q a b s value.SqlString is = inr (λ z. elim z [ ])
 words_of p q a b s value.SqlBool is = inr (λ z. elim z [ ])

@@ -16,8 +16,8 @@ use Rattle.kind_rules.specs.Rules.{both, expects, expects_row, guard_rows}
 use Rattle.kind_rules.specs.Kinding.{judged}
 use Rattle.kind_rules.specs.Kinding as kinds
 use Rattle.kind_rules.proofs.Differ.{DiffersIn, Fair, then_fair, expects_fair, row_fair, judged_fair}
-use Rattle.core_terms.specs.declared.markup.TagName.{TagName}
-use Rattle.core_terms.specs.declared.markup.AttrName.{AttrName}
+use Rattle.xml_trees.specs.declared.source_name.TagName.{TagName}
+use Rattle.xml_trees.specs.declared.source_name.AttrName.{AttrName}
 use Rattle.core_terms.specs.Names.{int_name, string_name}
 use Rattle.core_terms.specs.Trees.{Pt, Pfs, Ex, Its, Nms, Los, Brs, Fds, El, Ats, Xs, Dt, arity}
 use Rattle.core_terms.specs.Types.{no_types, one_field, at_types}

@@ -2,7 +2,7 @@
 use Rattle.std.proofs.Common.{◌≡◌, List, refl, sym, subst}
 use Rattle.con_terms.specs.Trees.{Cn, cat, Prs}
 use Rattle.row_normal.specs.Ordered.{ordered}
-use Rattle.core_terms.specs.declared.markup.TagName.{TagName}
+use Rattle.xml_trees.specs.declared.source_name.TagName.{TagName}
 use Rattle.core_terms.specs.Trees.{Pt, Ex, Its, Nms, Los, Brs, Fds, Ats, Xs}
 use Rattle.core_typing.specs.Scopes.{Sc, under, under_guard}
 use Rattle.core_typing.specs.Cover.{Covers}

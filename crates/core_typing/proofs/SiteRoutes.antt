@@ -172,7 +172,7 @@ case_at {names = names} (a_case {c = c} t s r) zero n h e =
     record { constructor' = c; at = refl; text = t ∙ ap (λ (x : List ℕ × Option Sh). Some x.0) (some_is e) }
 case_at (a_case t s r) (suc m) n h e = let w = case_at r m n h e in record { constructor' = w.constructor'; at = w.at; text = w.text }
 
-distinct_places : (xs : List ℕ) → Distinct xs → (m n x : ℕ) → slice_get xs m ≡ Some x → slice_get xs n ≡ Some x → m ≡ n
+pub distinct_places : (xs : List ℕ) → Distinct xs → (m n x : ℕ) → slice_get xs m ≡ Some x → slice_get xs n ≡ Some x → m ≡ n
 distinct_places [] d m n x e g = no_place e
 distinct_places (y ∷ ys) d zero zero x e g = refl
 distinct_places (y ∷ ys) d zero (suc n) x e g = absurd (d.0 n x (slice_get_within ys n x g) (some_is e ∙ sym (get_or_from_slice_get ys n x x g)))
@@ -222,22 +222,27 @@ constructor_plain {p} {routes} a r cs n h c i =
       | inr w ↦ (let v = case_at w.shaped m n h here in plain_at p.names a.formed.plain v.constructor'.name n v.text)
     ]
 
-constructor_once : {p : Pg} {routes : Rts} {callees : List ℕ} → Accepts p → RoutesOf p routes callees → (cs : Cases) (n : List ℕ) (h k : Option Sh) → Contains routes.datatypes cs → Contains cs (n, h) → Contains cs (n, k) → h ≡ k
-constructor_once {p} {routes} a r cs n h k c i j =
+-- a name stands at one place among the cases of a datatype
+pub case_place : {p : Pg} {routes : Rts} {callees : List ℕ} → Accepts p → RoutesOf p routes callees → (cs : Cases) (n : List ℕ) (h k : Option Sh) → Contains routes.datatypes cs → (m o : ℕ) → slice_get cs m ≡ Some (n, h) → slice_get cs o ≡ Some (n, k) → m ≡ o
+case_place {p} {routes} a r cs n h k c m o here there =
     let (l, at) = place_of routes.datatypes cs c in
-    let (m, here) = place_of cs (n, h) i in
-    let (o, there) = place_of cs (n, k) j in
     elim (datatype_at r.datatypes l cs at) [
-      | inl q ↦ none_in cs q i
+      | inl q ↦ none_in cs q (m, slice_get_within cs m (n, h) here, get_or_from_slice_get cs m (n, h) (n, h) here)
       | inr w ↦ (
           let v = case_at w.shaped m n h here in
           let u = case_at w.shaped o n k there in
           let one : v.constructor'.name ≡ u.constructor'.name = a.formed.differ v.constructor'.name u.constructor'.name n v.text u.text in
           let first : slice_get (names_in w.datatype) m ≡ Some v.constructor'.name = slice_get-map (λ (x : Cd). x.name) w.datatype.constructors m ∙ ap (option_map (λ (x : Cd). x.name)) v.at in
           let second : slice_get (names_in w.datatype) o ≡ Some v.constructor'.name = slice_get-map (λ (x : Cd). x.name) w.datatype.constructors o ∙ ap (option_map (λ (x : Cd). x.name)) u.at ∙ ap (λ z. Some z) (sym one) in
-          let place : m ≡ o = distinct_places (names_in w.datatype) (all_distinct p a w.place w.datatype w.at) m o v.constructor'.name first second in
-          ap (λ (x : List ℕ × Option Sh). x.1) (some_is (sym here ∙ ap (slice_get cs) place ∙ there)))
+          distinct_places (names_in w.datatype) (all_distinct p a w.place w.datatype w.at) m o v.constructor'.name first second)
     ]
+
+constructor_once : {p : Pg} {routes : Rts} {callees : List ℕ} → Accepts p → RoutesOf p routes callees → (cs : Cases) (n : List ℕ) (h k : Option Sh) → Contains routes.datatypes cs → Contains cs (n, h) → Contains cs (n, k) → h ≡ k
+constructor_once {p} {routes} a r cs n h k c i j =
+    let (m, here) = place_of cs (n, h) i in
+    let (o, there) = place_of cs (n, k) j in
+    let place : m ≡ o = case_place a r cs n h k c m o here there in
+    ap (λ (x : List ℕ × Option Sh). x.1) (some_is (sym here ∙ ap (slice_get cs) place ∙ there))
 
 begin_none : {p : Pg} {routes : Rts} {callees : List ℕ} → Accepts p → RoutesOf p routes callees → (e d : Ent) (more : List (List ℕ)) → Contains routes.entries e → Contains routes.entries d → e.name ++ more ≡ d.name → more ≡ []
 begin_none {p} {routes} a r e d more c g s =

@@ -7,10 +7,10 @@ use Rattle.con_terms.specs.Substitution.{replaced, replaced_pairs}
 use Rattle.con_terms.specs.Equal.{Equal}
 use Rattle.con_terms.specs.Apart.{Apart}
 use Rattle.con_terms.specs.Kinded.{Scope, Kinded}
-use Rattle.core_terms.specs.declared.markup.TagName.{TagName}
-use Rattle.core_terms.specs.declared.markup.TagName.TheVariants.{P, Div, Span, B, I, Em, Strong, H1, H2, H3, H4, Ul, Ol, Li, Code, Blockquote, A, Img, Table, Th, Td, Textbox, Password, Hidden, Checkbox, Submit}
-use Rattle.core_terms.specs.declared.markup.AttrName.{AttrName}
-use Rattle.core_terms.specs.declared.markup.AttrName.TheVariants as attr
+use Rattle.xml_trees.specs.declared.source_name.TagName.{TagName}
+use Rattle.xml_trees.specs.declared.source_name.TagName.TheVariants.{P, Div, Span, B, I, Em, Strong, H1, H2, H3, H4, Ul, Ol, Li, Code, Blockquote, A, Img, Table, Th, Td, Textbox, Password, Hidden, Checkbox, Submit}
+use Rattle.xml_trees.specs.declared.source_name.AttrName.{AttrName}
+use Rattle.xml_trees.specs.declared.source_name.AttrName.TheVariants as attr
 use Rattle.core_terms.specs.Trees.{Pt, Pfs, Ex, Its, Nms, no_named, named, Los, Brs, no_branches, branch, Fds, El, Ats, no_attributes, attribute, Xs, no_nodes, a_node, Cd, arity}
 use Rattle.core_typing.specs.Asks.{Asks}
 use Rattle.core_terms.specs.Types.{one_field, xml_of}

@@ -3,7 +3,7 @@ use Rattle.std.specs.Prelude.{true, false, [], ◌∷◌, ◌++◌, None, codes}
 use Rattle.con_terms.specs.Trees.{Cn, name}
 use Rattle.core_terms.specs.declared.exp.Sigil.TheVariants.{Plain}
 use Rattle.core_terms.specs.declared.basis.BasisName.TheVariants.{Return}
-use Rattle.core_terms.specs.declared.markup.TagName.TheVariants as word
+use Rattle.xml_trees.specs.declared.source_name.TagName.TheVariants as word
 use Rattle.core_terms.specs.Names.{basis_texts}
 use Rattle.core_terms.specs.Types.{no_types, page_type, transaction_of}
 use Rattle.core_terms.specs.Trees.{Ex, basis, call, element, no_items, with_term, tagged, no_attributes, no_nodes, val, Pg}
@@ -21,7 +21,7 @@ abbrev pub one_page : Pg
 one_page = record {
   names = basis_texts ++ codes "main" ∷ [];
   modules = codes "Main" ∷ [];
-  decls = val [] (byte 0) 35 true (transaction_of page_type) (said (call (said (basis Return)) Plain
+  decls = val [] (byte 0) 36 true (transaction_of page_type) (said (call (said (basis Return)) Plain
       (with_added page_type (with_term empty_body no_items)))) ∷ [];
   rules = [];
   foreigns = [];

@@ -6,8 +6,8 @@ use Rattle.con_terms.specs.declared.place.Place.{Place}
 use Rattle.core_terms.specs.declared.exp.Sigil.TheVariants.{Plain, At}
 use Rattle.core_terms.specs.declared.exp.ConOrigin.TheVariants.{Written, Inserted}
 use Rattle.core_terms.specs.declared.basis.BasisName.TheVariants.{Strcat, Divide, NumInt, Txt, ShowString}
-use Rattle.core_terms.specs.declared.markup.TagName.TheVariants as word
-use Rattle.core_terms.specs.declared.markup.AttrName.TheVariants as attr
+use Rattle.xml_trees.specs.declared.source_name.TagName.TheVariants as word
+use Rattle.xml_trees.specs.declared.source_name.AttrName.TheVariants as attr
 use Rattle.core_terms.specs.Names.{basis_texts, option_name, list_name, html_context, body_context}
 use Rattle.core_terms.specs.Types.{int_type, string_type, unit_type, type_row, no_types, one_field, unit_row}
 use Rattle.core_terms.specs.Datatypes.{basis_datatypes}
@@ -30,13 +30,13 @@ with_added c is = with_con (byte 0) Inserted c is
 
 -- the names A and B behind those of the basis, and x, n and r for what binders bind
 abbrev pub a_name : ℕ
-a_name = 35
+a_name = 36
 
 abbrev pub b_name : ℕ
-b_name = 36
+b_name = 37
 
 abbrev pub x_name : ℕ
-x_name = 37
+x_name = 38
 
 abbrev pub example_texts : List (List ℕ)
 example_texts = basis_texts ++ codes "A" ∷ codes "B" ∷ codes "x" ∷ []

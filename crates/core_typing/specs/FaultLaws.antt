@@ -11,7 +11,7 @@ use Rattle.core_typing.specs.Accepts.{Formed}
 use Rattle.core_typing.specs.Cover.{Covers}
 use Rattle.core_typing.specs.Found.{FoundBy}
 use Rattle.con_terms.specs.declared.place.Place.{Place}
-use Rattle.core_terms.specs.declared.markup.AttrName.{AttrName}
+use Rattle.xml_trees.specs.declared.source_name.AttrName.{AttrName}
 use Rattle.core_typing.specs.Typed.{IsLinked}
 use Rattle.core_typing.specs.Own.{Uncovered}
 

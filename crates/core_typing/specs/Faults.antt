@@ -2,7 +2,7 @@
 use Rattle.std.specs.Prelude.{◌≡◌, ℕ, ◌<◌, ◌⊎◌, List}
 use Rattle.con_terms.specs.Trees.{Kd, Cn}
 use Rattle.con_terms.specs.declared.place.Place.{Place}
-use Rattle.core_terms.specs.declared.markup.AttrName.{AttrName}
+use Rattle.xml_trees.specs.declared.source_name.AttrName.{AttrName}
 use Rattle.core_typing.specs.Cover.{Shp}
 
 -- what isn't bound: a variable, a top-level value or a foreign effect by its number, a constructor variable, a

@@ -53,9 +53,9 @@ use Rattle.row_normal.specs.Ordered.{ordered, ordered_pieces}
 use Rattle.core_terms.specs.declared.exp.Sigil.{Sigil}
 use Rattle.core_terms.specs.declared.exp.ConOrigin.{ConOrigin}
 use Rattle.core_terms.specs.declared.exp.ConOrigin.TheVariants.{Written, Inserted, Wild}
-use Rattle.core_terms.specs.declared.markup.TagName.{TagName}
-use Rattle.core_terms.specs.declared.markup.AttrName.{AttrName}
-use Rattle.core_terms.specs.declared.markup.AttrName.TheVariants as attr
+use Rattle.xml_trees.specs.declared.source_name.TagName.{TagName}
+use Rattle.xml_trees.specs.declared.source_name.AttrName.{AttrName}
+use Rattle.xml_trees.specs.declared.source_name.AttrName.TheVariants as attr
 use Rattle.core_terms.specs.Trees.{Pt, Ex, node, bound, top, foreign, fold_over, built, fn, fn_guard, call, let_in, case_of, ascribed, fields_of, select, concat, without, without_row, folder, element, literal, sql, Its, with_term, with_con, with_guard, Nms, named, Los, local_val, local_rec, Brs, branch, Fds, field, El, tagged, Ats, attribute, Xs, a_node, Exs, Sk, Cd, Dt}
 use Rattle.core_terms.specs.Types.{string_type, unit_type, type_row, no_types, one_field, xml_of}
 use Rattle.core_terms.specs.Datatypes.{datatype_of}

@@ -16,3 +16,11 @@ abbrev pub OneCallOfAccepted : Type 0
 OneCallOfAccepted = (p : Pg) (routes : Rts) (callees : List ℕ) (post : Bool) (target : List ℕ) (c d : Cl)
     → Accepts p
     → RoutesOf p routes callees → Route routes post target c → Route routes post target d → c ≡ d
+
+-- The routes of an accepted program are one.
+abbrev pub OneSiteOfAccepted : Type 0
+OneSiteOfAccepted = (p : Pg) (routes others : Rts) (callees numbers : List ℕ)
+    → Accepts p
+    → RoutesOf p routes callees
+    → RoutesOf p others numbers
+    → (routes ≡ others) × (callees ≡ numbers)

@@ -7,8 +7,8 @@ use Rattle.con_terms.specs.declared.place.Place.{Place}
 use Rattle.link_router.specs.Calls.{Ent}
 use Rattle.core_terms.specs.declared.exp.Sigil.{Sigil}
 use Rattle.core_terms.specs.declared.exp.ConOrigin.{ConOrigin}
-use Rattle.core_terms.specs.declared.markup.AttrName.{AttrName}
-use Rattle.core_terms.specs.declared.markup.TagName.{TagName}
+use Rattle.xml_trees.specs.declared.source_name.AttrName.{AttrName}
+use Rattle.xml_trees.specs.declared.source_name.TagName.{TagName}
 use Rattle.core_terms.specs.Trees.{Pt, Ex, node, fn, fn_con, fn_guard, call, let_in, case_of, ascribed, fields_of, select, concat, without, without_row, element, literal, sql, Its, with_term, with_con, with_guard, Nms, named, Los, no_locals, local_val, local_rec, Brs, branch, Fds, field, tagged, Ats, attribute, Xs, a_node, Exs, an_exp, Sk, Th, De, val, vals, con_is, datatype, thing, Cd, Dt, Pg}
 use Rattle.core_typing.specs.Scopes.{Sc, under, under_con, under_guard}
 use Rattle.core_typing.specs.Typed.{named_types}

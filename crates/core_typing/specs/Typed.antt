@@ -13,9 +13,9 @@ use Rattle.core_terms.specs.declared.exp.Sigil.{Sigil}
 use Rattle.core_terms.specs.declared.exp.ConOrigin.{ConOrigin}
 use Rattle.core_terms.specs.declared.basis.BasisName.{BasisName}
 use Rattle.core_terms.specs.declared.basis.BasisName.TheVariants.{Txt, Cdata}
-use Rattle.core_terms.specs.declared.markup.TagName.{TagName}
-use Rattle.core_terms.specs.declared.markup.AttrName.{AttrName}
-use Rattle.core_terms.specs.declared.markup.AttrName.TheVariants as attr
+use Rattle.xml_trees.specs.declared.source_name.TagName.{TagName}
+use Rattle.xml_trees.specs.declared.source_name.AttrName.{AttrName}
+use Rattle.xml_trees.specs.declared.source_name.AttrName.TheVariants as attr
 use Rattle.core_terms.specs.Trees.{Pt, Ex, node, bound, top, foreign, basis, fold_over, number, text, built, fn, fn_con, fn_guard, call, let_in, case_of, ascribed, fields_of, select, concat, without, without_row, folder, element, literal, Its, no_items, with_term, with_con, with_guard, Nms, no_named, named, Los, no_locals, local_val, local_rec, Brs, no_branches, branch, Fds, no_fields, field, El, tagged, Ats, no_attributes, attribute, Xs, no_nodes, a_node, Cd, Dt}
 use Rattle.core_terms.specs.Types.{int_type, string_type, unit_type, type_row, no_types, one_field, transaction_of, xml_of}
 use Rattle.core_terms.specs.Basis.{basis_type, fold_type}

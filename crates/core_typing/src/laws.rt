@@ -4,7 +4,7 @@ ghost use Rattle.core_typing.specs.FaultLaws.{FoundOrFails, FoundTellsNothing, P
 ghost use Rattle.core_typing.specs.FoundProgram.{FoundIsAccepted, FoundIsClear};
 ghost use Rattle.core_typing.specs.KindLaws.{BasisHasKinds, ConstructorsSubstitute, EtaKeepsKinds, KindsStayUnderBinders, KindsStayUnderGuards, KindsSubstitute, ReducedKeepsKinds, StepsKeepKinds};
 ghost use Rattle.core_typing.specs.ConLaws.{AcceptedScopesHaveTypes, ConstructorsSubstituteInTerms, TypesHaveKindType, TypingsStayUnderBinders, TypingsSubstitute};
-ghost use Rattle.core_typing.specs.SiteLaws.{NoEntryBeginsAnother, OneCallOfAccepted};
+ghost use Rattle.core_typing.specs.SiteLaws.{NoEntryBeginsAnother, OneCallOfAccepted, OneSiteOfAccepted};
 
 /// A type may be replaced by an equal one.
 pub fn equal_types_exchange()
@@ -116,6 +116,11 @@ pub fn types_have_kind_type()
 /// The scopes of an accepted program have types for what stands at the top.
 pub fn accepted_scopes_have_types()
     ensures { AcceptedScopesHaveTypes }
+{}
+
+/// An accepted program has one list of routes at most.
+pub fn one_site_of_an_accepted_program()
+    ensures { OneSiteOfAccepted }
 {}
 
 /// The values of the basis have types, and its types their kinds.

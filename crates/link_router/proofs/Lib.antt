@@ -3,3 +3,4 @@ pub mod Sent
 pub mod ReadBack
 pub mod OneCall
 pub mod Bodies
+pub mod OneRefusal

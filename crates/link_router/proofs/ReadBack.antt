@@ -79,13 +79,13 @@ all_were_sent (reads_one {rs = rs} {w = w} {ws = ws} h k) =
 abbrev pub OneOfAName : List Cases → Type 0
 OneOfAName D = (cs : Cases) (n : List ℕ) (h k : Option Sh) → Contains D cs → Contains cs (n, h) → Contains cs (n, k) → h ≡ k
 
-same_cases : (D : List Cases) (d : ℕ) {cs es : Cases} → slice_get D d ≡ Some cs → slice_get D d ≡ Some es → cs ≡ es
+pub same_cases : (D : List Cases) (d : ℕ) {cs es : Cases} → slice_get D d ≡ Some cs → slice_get D d ≡ Some es → cs ≡ es
 same_cases D d h k = cc
 
-heads : {X : Type 0} {x y : X} {xs ys : List X} → x ∷ xs ≡ y ∷ ys → x ≡ y
+pub heads : {X : Type 0} {x y : X} {xs ys : List X} → x ∷ xs ≡ y ∷ ys → x ≡ y
 heads h = cc
 
-tails : {X : Type 0} {x y : X} {xs ys : List X} → x ∷ xs ≡ y ∷ ys → xs ≡ ys
+pub tails : {X : Type 0} {x y : X} {xs ys : List X} → x ∷ xs ≡ y ∷ ys → xs ≡ ys
 tails h = cc
 
 same_number : {p q : List ℕ} {z y : ℤ} → IsNumber p z → IsNumber q y → p ≡ q → z ≡ y
@@ -94,14 +94,14 @@ same_number {z = z} {y = y} n m e = signed_decimal_injective z y (fits_mag z n.f
 same_words : {p q t u : List ℕ} → IsWords p t → IsWords q u → p ≡ q → t ≡ u
 same_words n m e = tails (sym n.behind ∙ e ∙ m.behind)
 
-one_held : (D : List Cases) (d : ℕ) {cs es : Cases} {p q : List ℕ} {h k : Option Sh} → OneOfAName D → slice_get D d ≡ Some cs → Contains cs (p, h) → slice_get D d ≡ Some es → Contains es (q, k) → p ≡ q → h ≡ k
+pub one_held : (D : List Cases) (d : ℕ) {cs es : Cases} {p q : List ℕ} {h k : Option Sh} → OneOfAName D → slice_get D d ≡ Some cs → Contains cs (p, h) → slice_get D d ≡ Some es → Contains es (q, k) → p ≡ q → h ≡ k
 one_held D d {cs} {es} {p} {q} {h} {k} o e i g j same =
     o cs p h k (listed_in D d cs e) i (subst (λ x. Contains x (p, k)) (sym (same_cases D d e g)) (subst (λ x. Contains es (x, k)) (sym same) j))
 
-no_other : {X : Type 0} {x : X} → None ≡ Some x → ⊥
+pub no_other : {X : Type 0} {x : X} → None ≡ Some x → ⊥
 no_other h = cc
 
-held_same : {X : Type 0} {x y : X} → Some x ≡ Some y → x ≡ y
+pub held_same : {X : Type 0} {x y : X} → Some x ≡ Some y → x ≡ y
 held_same h = cc
 
 mutual

@@ -5,7 +5,7 @@ use Rattle.table_rows.specs.Shapes.{Sh, Cases}
 use Rattle.link_router.specs.Calls.{Ent, Rts, Cl, is_post}
 use Rattle.link_router.specs.Links.{Route}
 use Rattle.link_router.specs.Reading.{ReadsAll}
-use Rattle.link_router.specs.Routed.{Fits}
+use Rattle.link_router.specs.Routed.{Astray, Fits, Refuses}
 
 -- a name stands in a link as it is: it has neither / nor %
 abbrev pub IsPlain : List ℕ → Type 0
@@ -39,3 +39,19 @@ RoutesAreRead = (routes : Rts) (post : Bool) (target : List ℕ) (call : Cl) →
 -- At most one call has a path.
 abbrev pub OneCallAtMost : Type 0
 OneCallAtMost = (routes : Rts) (post : Bool) (target : List ℕ) (c d : Cl) → AreNamed routes → Route routes post target c → Route routes post target d → c ≡ d
+
+-- A target that is a call isn't refused.
+abbrev pub CallsAreNotRefused : Type 0
+CallsAreNotRefused = (routes : Rts) (post : Bool) (target : List ℕ) (call : Cl) (x : Astray)
+    → AreNamed routes
+    → Route routes post target call
+    → Refuses routes post target x
+    → ⊥
+
+-- And a target is refused for one reason at most.
+abbrev pub OneRefusalAtMost : Type 0
+OneRefusalAtMost = (routes : Rts) (post : Bool) (target : List ℕ) (x y : Astray)
+    → AreNamed routes
+    → Refuses routes post target x
+    → Refuses routes post target y
+    → x ≡ y

@@ -1,6 +1,6 @@
 //! Laws of links and forms: which calls a path is, which form a body is, and links and forms worked by hand.
 ghost use Rattle.link_router.specs.Forms.{EachBodyIsForm, OneFormAtMost};
-ghost use Rattle.link_router.specs.RouteLaws.{RoutesAreRead, OneCallAtMost};
+ghost use Rattle.link_router.specs.RouteLaws.{CallsAreNotRefused, OneCallAtMost, OneRefusalAtMost, RoutesAreRead};
 ghost use Rattle.link_router.specs.Worked.{WorkedForms, WorkedLinks, WorkedPaths};
 
 /// The links of the texts nothing, `.`, `a/b` and `é`, of a negative number, and of a list.
@@ -21,6 +21,12 @@ pub fn routes_are_read()
 /// At most one call has a path.
 pub fn one_call_at_most()
     ensures { OneCallAtMost }
+{}
+
+/// A target that is a call isn't refused, and another is refused for one reason at most.
+pub fn one_reading_at_most()
+    ensures not_both { CallsAreNotRefused }
+    ensures one_refusal { OneRefusalAtMost }
 {}
 
 /// Bodies of forms: a first pair that counts, an empty value, a checkbox, a lacking field, a spoilt one.

@@ -6,6 +6,7 @@
 
 pub mod basis;
 pub mod by_name;
+pub mod datatypes;
 pub mod folds;
 pub mod forms;
 pub mod queries;
@@ -14,4 +15,5 @@ pub mod tags;
 pub mod types;
 
 pub use basis::basis_type;
+pub use datatypes::{basis_datatypes, constructor_type, held_at, own_type};
 pub use folds::{fold_step_type, fold_type};

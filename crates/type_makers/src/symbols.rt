@@ -1,5 +1,5 @@
 //! The symbols that every program's table begins with, and their texts.
-ghost use Rattle.std.specs.Prelude.{◌≡◌, Some, None, slice_get, IfOk, IfSome, IfNone};
+ghost use Rattle.std.specs.Prelude.{◌≡◌, IfOk};
 ghost use Rattle.core_terms.specs.Names.{basis_texts};
 
 use con_terms::symbol::{Sym, SymTable};
@@ -7,7 +7,7 @@ use std::alloc::{AllocError, Global};
 use table_rows::{Text, Texts};
 
 /// The texts of the symbols of the basis, in the order of their numbers.
-const TEXTS: [&str; 35] = [
+const TEXTS: [&str; 36] = [
     "int",
     "string",
     "url",
@@ -43,6 +43,7 @@ const TEXTS: [&str; 35] = [
     "Some",
     "Nil",
     "Cons",
+    "t",
 ];
 
 pub const INT: Sym = Sym { number: 0 };
@@ -115,13 +116,7 @@ pub const NIL: Sym = Sym { number: 33 };
 
 pub const CONS: Sym = Sym { number: 34 };
 
-/// The text of a symbol of the basis; none for a symbol of a program's own.
-pub fn basis_text(s: Sym) -> Option<&'static str>
-    ensures some { IfSome result (λ text. slice_get basis_texts s.number ≡ Some text.now) }
-    ensures none { IfNone result (slice_get basis_texts s.number ≡ None) }
-{
-    TEXTS.get(s.number as usize).copied()
-}
+pub const PARAMETER: Sym = Sym { number: 35 };
 
 /// The texts with which a program's table begins.
 pub fn basis_names(alloc: Global) -> Result<Texts, AllocError>

@@ -2,7 +2,7 @@
 ghost use Rattle.std.specs.Prelude.{◌≡◌, [], ◌∷◌, if◌then◌else◌, option_map, IfOk};
 ghost use Rattle.con_terms.specs.Trees.{Cn};
 ghost use Rattle.con_terms.specs.View.{con_tree};
-ghost use Rattle.core_terms.specs.declared.markup.AttrName.TheVariants as attr;
+ghost use Rattle.xml_trees.specs.declared.source_name.AttrName.TheVariants as attr;
 ghost use Rattle.core_terms.specs.Markup as meant;
 ghost use Rattle.core_terms.specs.Names.{form_context};
 ghost use Rattle.core_terms.specs.Types as types;

@@ -1,0 +1,9 @@
+use Rattle.std.proofs.Common.{◌≡◌}
+use Rattle.con_terms.specs.Trees.{basic}
+use Rattle.con_terms.specs.View.{con_tree}
+use Rattle.core_terms.specs.Types.{at_types}
+use Rattle.core_terms.specs.Datatypes.{parameters_of}
+use Rattle.type_makers.proofs.datatypes.at_parameters.Given as goal
+
+abbrev pub invariant-loop-built : goal.invariant-loop-built
+invariant-loop-built l = at_types (con_tree l.built) (parameters_of l.left) ≡ at_types (basic l.fn.symbol.number) (parameters_of l.fn.count)

@@ -1,0 +1,7 @@
+use Rattle.std.proofs.Common.{◌≡◌}
+use Rattle.con_terms.specs.View.{con_tree}
+use Rattle.core_terms.specs.Types.{for_types}
+use Rattle.type_makers.proofs.datatypes.for_types.Given as goal
+
+abbrev pub invariant-loop-built : goal.invariant-loop-built
+invariant-loop-built l = for_types l.left (con_tree l.built) ≡ for_types l.fn.count (con_tree l.fn.body)
