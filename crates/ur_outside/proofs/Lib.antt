@@ -1,1 +1,2 @@
+-- For `write_all`'s `bytes`: bytes that are told, over several writes.
 mod Told

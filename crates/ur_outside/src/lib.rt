@@ -1,6 +1,7 @@
 //! The outside of the program: where bytes come from, where they go, and how often that failed.
 #![tactic(auto)]
 
+pub mod kept;
 pub mod memory;
 pub mod standard;
 pub mod whole;
@@ -11,6 +12,7 @@ ghost use Rattle.std.specs.Io.{ReadsAtMost, WritesAtMost};
 ghost use Rattle.std.specs.Io.KnownBytes.{ReadConsumes, WriteAppends};
 ghost use Rattle.ur_outside.specs.Causes.{HasCause, StallsWithCause};
 
+pub use kept::{Kept, KeptSink, KeptSource};
 pub use memory::{MemSink, MemSource};
 pub use standard::{StdSink, StdSource};
 pub use whole::{ReadFault, read_up_to, write_all};
