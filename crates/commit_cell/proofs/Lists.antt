@@ -6,6 +6,7 @@ use native.Mathlib.Decide.{dec_le}
 use lib.ListN.{get_elem?}
 use Rattle.std.proofs.lemmas.List.{nil_from_length}
 use Rattle.std.proofs.lemmas.List.Elements.{filter-append}
+use Rattle.std.proofs.lemmas.List.Sums.{length-filter, count_by-le-length}
 use Rattle.commit_cell.specs.History.{StartsWith, of_number, CountsFrom, longer}
 
 module _ {A : Type 0} where
@@ -84,6 +85,14 @@ module _ {E : Type 0} (number : E → ℕ) where
       let a : [] ≡ f seen ++ f p.0 = sym none ∙ ap f p.1 ∙ filter-append (λ x. number x == n) seen p.0 in
       let b : 0 ≡ length (f seen) + length (f p.0) = ap length a ∙ length-append (f seen) (f p.0) in
       nil_from_length (f seen) (omega arith)
+
+  -- the entries of one number are no more than all
+  pub own_fits : (n : ℕ) (log own : List E) → of_number number n log ≡ own → length own ≤ length log
+  own_fits n log own is =
+      let f = length-filter (λ x. number x == n) log in
+      let c = count_by-le-length (λ x. number x == n) log in
+      let same : length (of_number number n log) ≡ length own = ap length is in
+      omega (arith, f, c, same)
 
 module _ {E : Type 0} (serial : E → ℕ) where
   pub counts-append : (es : List E) (e : E) (n : ℕ) → CountsFrom serial n es → serial e ≡ n + length es → CountsFrom serial n (es ++ e ∷ [])

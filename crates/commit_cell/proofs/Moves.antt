@@ -14,8 +14,8 @@ use Rattle.commit_cell.specs.declared.view.View.{View}
 use Rattle.commit_cell.specs.History.{StartsWith, times}
 use Rattle.commit_cell.specs.World.{Facts, newcomer, looked, committed, joined}
 use Rattle.commit_cell.specs.Rule.{from, history_after, known_after, first_view, acting, given_back, unnumbered, numbered, both, spent, pass_of, shown_world, Fits, Turned, Kept, took, gave, drew, compared, IsUnnumbered, IsNextOf}
-use Rattle.commit_cell.proofs.Lists.{at_bound, starts_self, starts_later, begins, longer_is}
-use Rattle.commit_cell.proofs.Numbers.{tally-set}
+use Rattle.commit_cell.proofs.Lists.{at_bound, starts_self, starts_later, begins, longer_is, own_fits}
+use Rattle.commit_cell.proofs.Numbers.{tally-set, gathered_once}
 use Rattle.commit_cell.proofs.Worlds.{first_keeps, keeps_place, keeps_newcomer, keeps_look, keeps_commit, keeps_join}
 
 module _ {S E : Type 0} (number serial : E → ℕ) (stands : S → List E → S → Type 0) (o : S) where
@@ -148,7 +148,7 @@ module _ {S E : Type 0} (number serial : E → ℕ) (stands : S → List E → S
         takes 0 (Some home.0),
         home.1,
         takes_free s id (f (get_or s.words 0 0)) m.0 r next at live is,
-        ((λ _. (home.0, r.log, refl, fits.seen, subst (λ (y : Option S). from stands y r.log home.0) (sym (is_opening m.0.opening opened fits.opening_is)) home.2, knows.owns)), (λ ne. absurd (ne is))),
+        ((λ _. (home.0, r.log, refl, fits.seen, subst (λ (y : Option S). from stands y r.log home.0) (sym (is_opening m.0.opening opened fits.opening_is)) home.2, knows.owns, record { made = own_fits number m.0.known.number r.log m.0.known.mine knows.owns.own; once = gathered_once (map pass_of s.views) id m.0.known r.facts.differ (pass_at s.views id m.0 at live) })), (λ ne. absurd (ne is))),
       ))
       (λ ne. (
         m.0,

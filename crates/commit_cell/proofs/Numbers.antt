@@ -101,6 +101,14 @@ module _ {E : Type 0} where
       let own : times n (numbers_of (Some p)) ≡ 1 + times n (firsts p.gathered) = times-same n n (firsts p.gathered) refl in
       none_is n p.gathered (omega arith)
 
+  -- and no number was gathered twice
+  pub gathered_once : (ps : List (Option (Known E))) (i : ℕ) (p : Known E) → ((n : ℕ) → tally n ps ≤ 1) → get_elem? ps i ≡ some (Some p) → (n : ℕ) → times n (firsts p.gathered) ≤ 1
+  gathered_once ps i p once at n =
+      let most : tally n ps ≤ 1 = once n in
+      let a : tally n (set ps i None) + times n (numbers_of (Some p)) ≡ tally n ps + 0 = tally-set n ps i (Some p) None at in
+      let own : times n (numbers_of (Some p)) ≡ cond (p.number == n) 1 0 + times n (firsts p.gathered) = times-cons n p.number (firsts p.gathered) in
+      omega arith
+
   -- a number above all that were given stands nowhere
   pub tally_new : (n : ℕ) (ps : List (Option (Known E))) → ((i : ℕ) (p : Known E) → get_elem? ps i ≡ some (Some p) → (p.number < n) × All (λ (g : ℕ × List E). g.0 < n) p.gathered) → tally n ps ≡ 0
   tally_new n [] below = refl

@@ -8,7 +8,7 @@ use Rattle.std.proofs.lemmas.List.Elements.{All-append}
 use Rattle.atomic_table.proofs.Lists.{at_set, at_snoc, set_else}
 use Rattle.commit_cell.specs.declared.view.Known.{Known}
 use Rattle.commit_cell.specs.History.{StartsWith, of_number, CountsFrom, times}
-use Rattle.commit_cell.specs.World.{World, Event, splits, joins, looks, commits, HasPass, newcomer, looked, committed, joined, numbers_of, numbers, first_world, Happens, Runs, Knows, Facts, EveryWorldKeepsItsFacts}
+use Rattle.commit_cell.specs.World.{World, Event, seats, enters, joins, looks, commits, HasPass, newcomer, looked, committed, joined, numbers_of, numbers, first_world, Happens, Runs, Knows, Facts, EveryWorldKeepsItsFacts}
 use Rattle.commit_cell.proofs.Lists.{starts_self, starts_later, begins, longer_is, of_number-other, of_number-own, of_number-between, of_number-none, counts-append}
 use Rattle.commit_cell.proofs.Numbers.{tally, firsts, times-append, times-same, times-other, times-firsts-append, tally-append, tally-set, tally_new, apart, own_apart}
 
@@ -162,12 +162,12 @@ module _ {E : Type 0} (number serial : E → ℕ) where
 
   -- an event keeps the facts
   pub keeps_event : (w w' : World E) (e : Event E) → Keeps w → Happens number serial w e w' → Keeps w'
-  keeps_event w w' (splits i) f h =
-      let p = h.0 in
-      let new = newcomer w.given p.seen in
-      subst Keeps (sym h.2) (keeps_newcomer w p.seen (w.passes ++ Some new ∷ []) f (f.each i p h.1).seen
-      (λ j q e. ⊎_elim inl (λ (t : Some new ≡ Some q). inr (cc)) (at_snoc w.passes (Some new) (Some q) j e))
-      (λ n. tally-append n w.passes (Some new)))
+  keeps_event w w' seats f h = subst Keeps (sym h) (keeps_place w f)
+  keeps_event w w' (enters i seen) f h =
+      let new = newcomer w.given seen in
+      subst Keeps (sym h.2) (keeps_newcomer w seen (set w.passes i (Some new)) f h.0
+      (λ j q e. ⊎_elim (λ (t : (j ≡ i) × (Some new ≡ Some q)). let k = t.1 in inr (cc)) (λ (t : (j ≢ i) × (get_elem? w.passes j ≡ some (Some q))). inl t.1) (at_set w.passes i j (Some new) (Some q) e))
+      (λ n. let t = tally-set n w.passes i None (Some new) h.1 in let z : times n [] ≡ 0 = refl in omega arith))
   keeps_event w w' (joins i j) f h = subst Keeps (sym h.5) (keeps_join w i j h.0 h.1 f h.2 h.3 h.4)
   keeps_event w w' (looks i) f h = subst Keeps (sym h.2) (keeps_look w i h.0 f h.1)
   keeps_event w w' (commits i e) f h = subst Keeps (sym h.4) (keeps_commit w i h.0 e f h.1 h.2 h.3)

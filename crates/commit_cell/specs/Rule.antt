@@ -1,4 +1,5 @@
--- The rule of the cell's table, and what each step tells. Word 0 is the turn: 0 free, 1 taken, 2 taken while others may sleep for it. Word 1 is the next number. Slot 0 has the value.
+-- The rule of the cell's table, and what each step tells. Word 0 is the turn: 0 free, 1 taken, 2 taken while others
+-- may sleep for it. Word 1 is the next number. Slot 0 has the value.
 use Rattle.std.specs.Prelude.{◌≡◌, ◌≢◌, ℕ, ◌≤◌, true, false, List, [], ◌∷◌, ◌++◌, length, map, cond, slice_index, All, Option, Some, None, is_some}
 use mathlib.Core.Option.{some}
 use lib.ListN.{get_elem?}
@@ -6,7 +7,7 @@ use Rattle.atomic_table.specs.Table.{State, Me, Step}
 use Rattle.commit_cell.specs.declared.view.Known.{Known}
 use Rattle.commit_cell.specs.declared.view.View.{View}
 use Rattle.commit_cell.specs.History.{StartsWith}
-use Rattle.commit_cell.specs.World.{World, Facts, Owns, newcomer, looked, committed, joined}
+use Rattle.commit_cell.specs.World.{World, Facts, IsCounted, Owns, newcomer, looked, committed, joined}
 
 module _ {E : Type 0} where
   -- the history once this was given
@@ -35,7 +36,13 @@ module _ {S E : Type 0} where
 
   -- the turn is given back
   abbrev pub given_back : View S E → Option E → View S E
-  given_back v given = record { opening = v.opening; known = known_after v.known given; told = v.told; live = v.live; acts = false }
+  given_back v given = record {
+    opening = v.opening;
+    known = known_after v.known given;
+    told = v.told;
+    live = v.live;
+    acts = false;
+  }
 
   -- a seat that has seen as much, and has no number yet
   abbrev pub unnumbered : View S E → View S E
@@ -43,11 +50,23 @@ module _ {S E : Type 0} where
 
   -- that seat, with its number
   abbrev pub numbered : View S E → ℕ → View S E
-  numbered v n = record { opening = v.opening; known = newcomer n v.known.seen; told = v.told; live = true; acts = false }
+  numbered v n = record {
+    opening = v.opening;
+    known = newcomer n v.known.seen;
+    told = v.told;
+    live = true;
+    acts = false;
+  }
 
   -- a pass with another joined into it
   abbrev pub both : View S E → View S E → View S E
-  both v w = record { opening = v.opening; known = joined v.known w.known; told = v.known.seen ∷ w.known.seen ∷ []; live = v.live; acts = v.acts }
+  both v w = record {
+    opening = v.opening;
+    known = joined v.known w.known;
+    told = v.known.seen ∷ w.known.seen ∷ [];
+    live = v.live;
+    acts = v.acts;
+  }
 
   -- what is left of a seat that was joined into another
   abbrev pub spent : View S E
@@ -74,23 +93,30 @@ module _ {S E : Type 0} where
     pub view : View S E
     pub there : get_elem? views taker ≡ some view
     pub acts : view.acts ≡ true
-    pub others : (id : ℕ) (v : View S E) → get_elem? views id ≡ some v → v.acts ≡ true → (id ≡ taker) × (v.known.seen ≡ log)
+    pub others : (id : ℕ) (v : View S E) → get_elem? views id ≡ some v → v.acts ≡ true → (id ≡ taker)
+        × (v.known.seen ≡ log)
 
-  pub record Kept (number serial : E → ℕ) (stands : S → List E → S → Type 0) (opening : S) (s : State (Option S) (View S E)) : Type 0 where
+  pub record Kept (number serial : E → ℕ) (stands : S → List E → S → Type 0) (opening : S)
+      (s : State (Option S) (View S E)) : Type 0 where
     pub log : List E
     pub facts : Facts number serial (shown_world log s)
     pub two_words : length s.words ≡ 2
     pub each : (id : ℕ) (v : View S E) → get_elem? s.views id ≡ some v → Fits opening log v
-    pub at_home : slice_index s.words 0 ≡ 0 → (x : S) × (get_elem? s.homes 0 ≡ some (some (Some x))) × stands opening log x
+    pub at_home : slice_index s.words 0 ≡ 0 → (x : S) × (get_elem? s.homes 0 ≡ some (some (Some x)))
+        × stands opening log x
     pub at_rest : slice_index s.words 0 ≡ 0 → (id : ℕ) (v : View S E) → get_elem? s.views id ≡ some v → v.acts ≡ false
     pub taken : slice_index s.words 0 ≢ 0 → Turned log s.views
 
   -- the seat has the turn, and the value that stands for the whole history
-  abbrev pub HasValue : (E → ℕ) → (E → ℕ) → (S → List E → S → Type 0) → Me (Option S) (View S E) → Me (Option S) (View S E) → Type 0
-  HasValue number serial stands m n = (x : S) × (log : List E) × (n ≡ (acting m.0 log, (0, Some x) ∷ m.1)) × StartsWith log m.0.known.seen × from stands m.0.opening log x × Owns number serial log m.0.known
+  abbrev pub HasValue : (E → ℕ) → (E → ℕ) → (S → List E → S → Type 0) → Me (Option S) (View S E)
+      → Me (Option S) (View S E) → Type 0
+  HasValue number serial stands m n = (x : S) × (log : List E) × (n ≡ (acting m.0 log, (0, Some x) ∷ m.1))
+      × StartsWith log m.0.known.seen × from stands m.0.opening log x × Owns number serial log m.0.known
+      × IsCounted log m.0.known
 
   -- the turn was free and is taken, or was not free, and nothing changes
-  abbrev pub took : (E → ℕ) → (E → ℕ) → (S → List E → S → Type 0) → Step (Option S) → Me (Option S) (View S E) → ℕ → Me (Option S) (View S E) → Type 0
+  abbrev pub took : (E → ℕ) → (E → ℕ) → (S → List E → S → Type 0) → Step (Option S) → Me (Option S) (View S E) → ℕ
+      → Me (Option S) (View S E) → Type 0
   took number serial stands st m r n = (r ≡ 0 → HasValue number serial stands m n) × (r ≢ 0 → n ≡ m)
 
   abbrev pub gave : Option E → Step (Option S) → Me (Option S) (View S E) → ℕ → Me (Option S) (View S E) → Type 0

@@ -7,7 +7,7 @@ use Rattle.commit_cell.specs.declared.cell.Cell.{Cell}
 use Rattle.commit_cell.specs.declared.pass.Pass.{Pass}
 use Rattle.commit_cell.specs.declared.turn.Turn.{Turn}
 use Rattle.commit_cell.specs.History.{StartsWith}
-use Rattle.commit_cell.specs.World.{Owns, looked}
+use Rattle.commit_cell.specs.World.{IsCounted, Owns, looked}
 use Rattle.commit_cell.specs.Rule.{from, HoldsTurn, IsNextOf}
 
 module _ {S E : Type 0} where
@@ -81,8 +81,11 @@ module _ {S E : Type 0} {G : Ghosts S E} where
   abbrev pub MayGive : (E → ℕ) → (E → ℕ) → Pass S E G → E → Type 0
   MayGive number_of serial_of p e = IsNextOf number_of serial_of (known p) e
 
-  -- The pass takes the turn: it is as before but for what it has seen, which now is the whole history, and the value stands for that
-  pub record TakesTurn (number_of serial_of : E → ℕ) (stands : S → List E → S → Type 0) (c : Cell S E) (p q : Pass S E G) (t : Turn S E) : Type 0 where
+  -- The pass takes the turn: it is as before but for what it has seen, and the value stands for that. What it has
+  -- seen goes on from what it had seen, and has all that it made; that it is the whole history is the rule of the
+  -- table alone (`Turned`). No number was gathered twice.
+  pub record TakesTurn (number_of serial_of : E → ℕ) (stands : S → List E → S → Type 0)
+      (c : Cell S E) (p q : Pass S E G) (t : Turn S E) : Type 0 where
     pub is_of : IsOf c q
     pub has_turn : HasTurn q
     pub is_turn : IsTurnOf t q
@@ -90,15 +93,19 @@ module _ {S E : Type 0} {G : Ghosts S E} where
     pub opening_is : opening q ≡ opening p
     pub begins : StartsWith (seen q) (seen p)
     pub whole : Owns number_of serial_of (seen q) (known q)
+    pub counted : IsCounted (seen q) (known q)
     pub stands_for : StandsFor stands q (seen q) (value_of t)
 
   -- the pass is free and knows what it knew
   abbrev pub StaysFree : Cell S E → Pass S E G → Pass S E G → Type 0
   StaysFree c p q = IsFreeOf c q × (known q ≡ known p) × (opening q ≡ opening p)
 
-  -- The value stands for a history that goes on from what the pass had seen, in which the pass's entries are its own and those of each gathered number the list gathered with it
-  pub record Closes (number_of serial_of : E → ℕ) (stands : S → List E → S → Type 0) (p : Pass S E G) (x : S) : Type 0 where
+  -- The value stands for a history that goes on from what the pass had seen, in which the pass's entries are its own
+  -- and those of each gathered number the list gathered with it; no number was gathered twice
+  pub record Closes (number_of serial_of : E → ℕ) (stands : S → List E → S → Type 0)
+      (p : Pass S E G) (x : S) : Type 0 where
     pub log : List E
     pub begins : StartsWith log (seen p)
     pub stands_for : StandsFor stands p log x
     pub owns : Owns number_of serial_of log (known p)
+    pub counted : IsCounted log (known p)

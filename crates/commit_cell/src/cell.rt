@@ -1,4 +1,4 @@
-// The shared value, and what is done with it.
+//! The shared value, and what is done with it.
 ghost use Rattle.std.specs.Prelude.{◌≡◌, ◌≢◌, ◌+◌, ◌<◌, ◌^◌, [], ◌∷◌, ◌++◌, length, IfOk, IfErr, IfSome, IfNone, MatchBool, true, is_some, Some};
 ghost use Rattle.commit_cell.specs.History.{StartsWith};
 ghost use Rattle.commit_cell.specs.World.{newcomer, joined, committed};
@@ -19,7 +19,7 @@ use std::sync::Wait;
 /// How often the turn is looked at before a thread sleeps for it.
 const LOOKS: u32 = 100;
 
-// The turn's word: free, taken, or taken while others may sleep for it.
+/// The turn's word: free, taken, or taken while others may sleep for it.
 const FREE: u64 = 0;
 
 const TAKEN: u64 = 1;
@@ -34,7 +34,8 @@ pub struct Cell<S: Replays> {
     ghost sized: { (table.shared.table_id.words ≡ 2) × (table.shared.table_id.slots ≡ 1) },
 }
 
-// Who asks for the turn: one that has not slept for it, or one that sleeps where it isn't free, and leaves word of that.
+/// Who asks for the turn: one that has not slept for it, or one that sleeps where it isn't free, and leaves word of
+/// that.
 #[derive(Clone, Copy)]
 enum Asker {
     Passes,
@@ -90,8 +91,10 @@ impl<S: Replays> Cell<S> {
         requires pass { IsFreeOf self.old pass.old }
         requires room { given self.old + 1 < 2 ^ 32 }
         ensures cell { IsSameCell self.old self.new × (given self.new ≡ given self.old + 1) }
-        ensures pass { IsFreeOf self.new pass.new × (known pass.new ≡ known pass.old) × (opening pass.new ≡ opening pass.old) }
-        ensures other { IsFreeOf self.new result × (known result ≡ newcomer (given self.old) (seen pass.old)) × (opening result ≡ opening pass.old) }
+        ensures pass { IsFreeOf self.new pass.new × (known pass.new ≡ known pass.old)
+            × (opening pass.new ≡ opening pass.old) }
+        ensures other { IsFreeOf self.new result × (known result ≡ newcomer (given self.old) (seen pass.old))
+            × (opening result ≡ opening pass.old) }
     {
         let mut seat = self.table.shared.split_seat::<Cut<S>>(&mut pass.seat);
         self.draw(rt, &mut seat);
@@ -109,7 +112,8 @@ impl<S: Replays> Cell<S> {
         requires pass { IsFreeOf self.now pass.old }
         requires other { IsFreeOf self.now other }
         ensures free { IsFreeOf self.now pass.new }
-        ensures known { (known pass.new ≡ joined (known pass.old) (known other)) × (opening pass.new ≡ opening pass.old) }
+        ensures known { (known pass.new ≡ joined (known pass.old) (known other))
+            × (opening pass.new ≡ opening pass.old) }
         ensures this_begins { StartsWith (seen pass.new) (seen pass.old) }
         ensures other_begins { StartsWith (seen pass.new) (seen other) }
     {
@@ -157,7 +161,8 @@ impl<S: Replays> Cell<S> {
         requires entry { MayGive S.number S.serial pass.old entry.now }
         requires room { length (mine pass.old) + 1 < 2 ^ 64 }
         ensures free { IsFreeOf self.now pass.new }
-        ensures known { (known pass.new ≡ committed (known pass.old) (seen pass.old) entry.now) × (opening pass.new ≡ opening pass.old) }
+        ensures known { (known pass.new ≡ committed (known pass.old) (seen pass.old) entry.now)
+            × (opening pass.new ≡ opening pass.old) }
     {
         let Turn { value, taken: _ } = turn;
         self.give_named::<Brand>(value, &mut pass.seat, entry);
@@ -173,7 +178,7 @@ impl<S: Replays> Cell<S> {
         value
     }
 
-    // Takes the turn if it is free, or is soon.
+    /// Takes the turn if it is free, or is soon.
     fn take_awake(&self, pass: &mut Pass<S>) -> Option<Turn<S>>
         requires { IsFreeOf self.now pass.old }
         ensures some { IfSome result (λ t. TakesTurn S.number S.serial S.stands self.now pass.old pass.new t) }
@@ -188,7 +193,7 @@ impl<S: Replays> Cell<S> {
         self.try_take(pass, Asker::Passes)
     }
 
-    // Takes the turn if it is free, and else leaves word that one sleeps for it, unless that was seen to stand there.
+    /// Takes the turn if it is free, and else leaves word that one sleeps for it, unless that was seen to stand there.
     fn take_or_crowd(&self, pass: &mut Pass<S>, seen: u64) -> Option<Turn<S>>
         requires { IsFreeOf self.now pass.old }
         ensures some { IfSome result (λ t. TakesTurn S.number S.serial S.stands self.now pass.old pass.new t) }
@@ -200,7 +205,7 @@ impl<S: Replays> Cell<S> {
         self.try_take(pass, Asker::Sleeps)
     }
 
-    // Looks for a while, as long as the turn is taken and no one sleeps for it, and answers the word that it saw last.
+    /// Looks for a while, as long as the turn is taken and no one sleeps for it, and answers the word that it saw last.
     fn look(&self) -> u64 {
         for _ in 0..LOOKS {
             let seen = self.table.shared.peek(0);
@@ -212,7 +217,7 @@ impl<S: Replays> Cell<S> {
         TAKEN
     }
 
-    // Takes the turn with the value, if it is free.
+    /// Takes the turn with the value, if it is free.
     fn try_take(&self, pass: &mut Pass<S>, asker: Asker) -> Option<Turn<S>>
         requires { IsFreeOf self.now pass.old }
         ensures some { IfSome result (λ t. TakesTurn S.number S.serial S.stands self.now pass.old pass.new t) }
@@ -226,7 +231,7 @@ impl<S: Replays> Cell<S> {
         Some(Turn { value, taken })
     }
 
-    // Takes the turn if it is free, and answers the word that it found.
+    /// Takes the turn if it is free, and answers the word that it found.
     fn ask(&self, seat: &mut Place<S>, asker: Asker) -> u64
         requires place { seat.old.table_id ≡ self.now.table.shared.table_id }
         requires pass { (seat.old.me.0.live ≡ true) × (is_some seat.old.me.0.opening ≡ true) }
@@ -241,7 +246,7 @@ impl<S: Replays> Cell<S> {
         }
     }
 
-    // Puts the value back and frees the turn, with what N gives added to the history.
+    /// Puts the value back and frees the turn, with what N gives added to the history.
     fn give<N: Gives<S::Entry>>(&self, value: S, seat: &mut Place<S>)
         requires place { seat.old.table_id ≡ self.now.table.shared.table_id }
         requires pass { (seat.old.me.0.live ≡ true) × (is_some seat.old.me.0.opening ≡ true) }
@@ -258,7 +263,7 @@ impl<S: Replays> Cell<S> {
         }
     }
 
-    // The same, where N gives this entry.
+    /// The same, where N gives this entry.
     fn give_named<N: Gives<S::Entry>>(&self, value: S, seat: &mut Place<S>, entry: &S::Entry)
         requires name { N.given ≡ Some entry.now }
         requires place { seat.old.table_id ≡ self.now.table.shared.table_id }
@@ -273,7 +278,7 @@ impl<S: Replays> Cell<S> {
         self.give::<N>(value, seat);
     }
 
-    // Draws the next number for a seat that has none.
+    /// Draws the next number for a seat that has none.
     fn draw<R: Wait>(&self, rt: &R, seat: &mut Place<S>)
         requires place { seat.old.table_id ≡ self.now.table.shared.table_id }
         requires unnumbered { IsUnnumbered seat.old.me.0 }
@@ -289,13 +294,14 @@ impl<S: Replays> Cell<S> {
         unreachable!()
     }
 
-    // Draws the next number, if no other draw came between.
+    /// Draws the next number, if no other draw came between.
     fn try_draw(&self, seat: &mut Place<S>) -> bool
         requires place { seat.old.table_id ≡ self.now.table.shared.table_id }
         requires unnumbered { IsUnnumbered seat.old.me.0 }
         requires room { self.now.given + 1 < 2 ^ 32 }
         ensures place { seat.new.table_id ≡ seat.old.table_id }
-        ensures me { MatchBool result (seat.new.me ≡ (numbered seat.old.me.0 self.now.given, seat.old.me.1)) (seat.new.me ≡ seat.old.me) }
+        ensures me { MatchBool result (seat.new.me ≡ (numbered seat.old.me.0 self.now.given, seat.old.me.1))
+            (seat.new.me ≡ seat.old.me) }
     {
         let number = u64::from(self.given);
         let shared = &self.table.shared;

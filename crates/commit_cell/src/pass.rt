@@ -1,4 +1,4 @@
-// What one thread knows of the cell's history.
+//! What one thread knows of the cell's history.
 ghost use Rattle.std.specs.Prelude.{◌≡◌, true, length, is_some};
 
 use crate::replays::Replays;

@@ -1,4 +1,4 @@
-// What a value has to say of itself before it can be shared.
+//! What a value has to say of itself before it can be shared.
 ghost use Rattle.std.specs.Prelude.{ℕ, List};
 
 /// A value that a history of entries leads to.

@@ -1,4 +1,4 @@
-// The rule of the table, and what each step on it tells the one that takes it.
+//! The rule of the table, and what each step on it tells the one that takes it.
 ghost use Rattle.std.specs.Prelude.{Option, None};
 
 use crate::replays::Replays;

@@ -1,11 +1,12 @@
-// The turn at the cell's value.
+//! The turn at the cell's value.
 ghost use Rattle.std.specs.Prelude.{◌≡◌};
 
 use crate::pass::Place;
 use crate::replays::Replays;
 use std::snapshot::Snapshot;
 
-/// The value, which its holder owns until it gives the turn back. It can't be dropped: `give_back` and `give_entry` spend it.
+/// The value, which its holder owns until it gives the turn back. It can't be dropped: `give_back` and `give_entry`
+/// spend it.
 pub struct Turn<S: Replays> {
     pub(crate) value: S,
     pub(crate) taken: Snapshot<Place<S>>,
@@ -25,7 +26,8 @@ impl<S: Replays> Turn<S> {
 
     /// The value, to be changed.
     pub fn value_mut(&mut self) -> &mut S
-        ensures* written { sem 𝓛 (Lends (the_row S.row S.Entry.row) S.row self.entry result (with_value self.entry.now)) }
+        ensures* written { sem 𝓛
+            (Lends (the_row S.row S.Entry.row) S.row self.entry result (with_value self.entry.now)) }
         ensures value { result.now ≡ value_of self.old }
     {
         &mut self.value

@@ -1,8 +1,9 @@
-// What a pass knows, and what the table keeps of it. No value of these types is made: they are for contracts and proofs.
+//! What a pass knows, and what the table keeps of it. No value of these types is made: they are for contracts and
+//! proofs.
 use std::collections::LinkedList;
 
-/// What a pass knows: its number, the beginning of the history that it has seen, its own entries there, and for each pass
-/// that was joined into it, straight or by way of others, the number and the entries.
+/// What a pass knows: its number, the beginning of the history that it has seen, its own entries there, and for each
+/// pass that was joined into it, straight or by way of others, the number and the entries.
 pub struct Known<E> {
     pub number: u32,
     pub seen: LinkedList<E>,
