@@ -1,0 +1,2 @@
+-- For `place_of`: where a line begins, a character begins.
+mod Lines

@@ -1,0 +1,67 @@
+//! A refusal as its line tells it, and what a person is told of it beside that line.
+ghost use Rattle.std.specs.Prelude.{IfSome, option_map};
+ghost use Rattle.told_places.specs.Refusals.{IsRead};
+
+use crate::sentence::sentence_of;
+use crate::{tell_at, tell_whole};
+use std::alloc::{AllocError, Global};
+use std::str;
+
+/// A refusal's line, read: `FILE:AT: NAME ..`, or `FILE: NAME ..` where it has no place.
+#[derive(Clone, Copy, Debug, PartialEq, Eq)]
+pub struct Refusal<'a> {
+    pub file: &'a str,
+    pub at: Option<&'a str>,
+    /// The name of the refusal, with the words that follow it.
+    pub name: &'a str,
+}
+
+/// Reads a refusal's line, which ends with a line feed.
+pub fn read_refusal(line: &str) -> Option<Refusal<'_>>
+    ensures { IfSome result
+        (λ refusal. IsRead line.now refusal.file.now (option_map (λ at. at.now) refusal.at) refusal.name.now) }
+{
+    let line = line.strip_suffix('\n')?;
+    let (place, name) = line.split_once(": ")?;
+    match place.split_once(':') {
+        Some((file, at)) => Some(Refusal {
+            file,
+            at: Some(at),
+            name,
+        }),
+        None => Some(Refusal {
+            file: place,
+            at: None,
+            name,
+        }),
+    }
+}
+
+/// The text that these bytes begin with: all of them, or those up to the first that aren't UTF-8.
+fn text_of(bytes: &[u8]) -> &str {
+    match str::from_utf8(bytes) {
+        Ok(text) => text,
+        Err(fault) => str::from_utf8(&bytes[..fault.valid_up_to()]).unwrap_or(""),
+    }
+}
+
+/// What a person is told of a refusal, over the bytes of its file.
+pub fn tell_refusal(
+    alloc: Global,
+    refusal: &Refusal<'_>,
+    bytes: &[u8],
+) -> Result<String, AllocError> {
+    let text = text_of(bytes);
+    let at = match refusal.at {
+        Some(at) => at.parse::<usize>().ok(),
+        None if refusal.name == "NotUtf8" => Some(text.len()),
+        None => None,
+    };
+    match at {
+        Some(at) if text.is_char_boundary(at) => {
+            let sentence = sentence_of(refusal.name, &text[at..], at);
+            tell_at(alloc, refusal.file, text, at, sentence)
+        }
+        _ => tell_whole(alloc, refusal.file, sentence_of(refusal.name, "", 0)),
+    }
+}
