@@ -31,15 +31,30 @@ both_literal _ _ = false
 
 -- p is a piece of a row equal to c
 pub data HasPiece : Cn → Cn → Type 0 where
-  has_piece : {c d p : Cn} → Equal c d → Contains (pieces d) p → HasPiece c p
+  has_piece : {c d p : Cn}
+      → Equal c d
+      → Contains (pieces d) p
+      → HasPiece c p
 
 -- Two pieces are separated: literal names that differ, or pieces of the two sides of an assumed guard. A guard that
--- can't hold, as
--- [A] ~ [A], separates too, so that what is apart stays apart where a constructor is put for a variable.
+-- can't hold, as [A] ~ [A], separates too, so that what is apart stays apart where a constructor is put for a variable.
 pub data Separated : Guards → Cn → Cn → Type 0 where
-  names_differ : {gs : Guards} {s t : ℕ} → s ≢ t → Separated gs (name s) (name t)
-  by_guard : {gs : Guards} {a b p q : Cn} → Contains gs (a, b) → HasPiece a p → HasPiece b q → Separated gs p q
-  by_guard_turned : {gs : Guards} {a b p q : Cn} → Contains gs (a, b) → HasPiece a q → HasPiece b p → Separated gs p q
+  -- #X and #Y
+  names_differ : {gs : Guards} {s t : ℕ}
+      → s ≢ t
+      → Separated gs (name s) (name t)
+  -- [a ~ b], of which a has p and b has q
+  by_guard : {gs : Guards} {a b p q : Cn}
+      → Contains gs (a, b)
+      → HasPiece a p
+      → HasPiece b q
+      → Separated gs p q
+  -- [a ~ b], of which a has q and b has p
+  by_guard_turned : {gs : Guards} {a b p q : Cn}
+      → Contains gs (a, b)
+      → HasPiece a q
+      → HasPiece b p
+      → Separated gs p q
 
 -- each piece of the one is separated from each piece of the other
 abbrev pub AllSeparated : Guards → List Cn → List Cn → Type 0

@@ -28,33 +28,70 @@ bind k G = record {
 abbrev pub assume : Cn → Cn → Scope → Scope
 assume a b G = record { binders = G.binders; guards = (a, b) ∷ G.guards; basics = G.basics }
 
+-- G ⊢ c :: k
 mutual
   pub data Kinded : Scope → Cn → Kd → Type 0 where
-    of_var : {G : Scope} {i : ℕ} {k : Kd} → slice_get G.binders i ≡ Some k → Kinded G (var i) k
-    of_basic : {G : Scope} {s : ℕ} {k : Kd} → basic_kind G.basics s ≡ Some k → Kinded G (basic s) k
-    of_arrow : {G : Scope} {a b : Cn} → Kinded G a types → Kinded G b types → Kinded G (arrow a b) types
-    of_poly : {G : Scope} {x : Bool} {k : Kd} {b : Cn} → Kinded (bind k G) b types → Kinded G (poly x k b) types
+    -- a variable
+    of_var : {G : Scope} {i : ℕ} {k : Kd}
+        → slice_get G.binders i ≡ Some k
+        → Kinded G (var i) k
+    -- a basic name, as int
+    of_basic : {G : Scope} {s : ℕ} {k : Kd}
+        → basic_kind G.basics s ≡ Some k
+        → Kinded G (basic s) k
+    -- a -> b
+    of_arrow : {G : Scope} {a b : Cn}
+        → Kinded G a types
+        → Kinded G b types
+        → Kinded G (arrow a b) types
+    -- x :: k -> b, and x ::: k -> b
+    of_poly : {G : Scope} {x : Bool} {k : Kd} {b : Cn}
+        → Kinded (bind k G) b types
+        → Kinded G (poly x k b) types
+    -- [a ~ b] => c
     of_guarded : {G : Scope} {a b c : Cn} {k l : Kd}
         → Kinded G a (row_of k)
         → Kinded G b (row_of l)
         → Kinded (assume a b G) c types
         → Kinded G (guarded a b c) types
-    of_record : {G : Scope} {a : Cn} → Kinded G a (row_of types) → Kinded G (record_of a) types
-    of_app : {G : Scope} {f a : Cn} {k l : Kd} → Kinded G f (to k l) → Kinded G a k → Kinded G (app f a) l
-    of_lambda : {G : Scope} {k l : Kd} {b : Cn} → Kinded (bind k G) b l → Kinded G (lambda k b) (to k l)
-    of_unit : {G : Scope} → Kinded G unit_con units
-    of_name : {G : Scope} {s : ℕ} → Kinded G (name s) names
+    -- $a
+    of_record : {G : Scope} {a : Cn}
+        → Kinded G a (row_of types)
+        → Kinded G (record_of a) types
+    -- f a
+    of_app : {G : Scope} {f a : Cn} {k l : Kd}
+        → Kinded G f (to k l)
+        → Kinded G a k
+        → Kinded G (app f a) l
+    -- fn x :: k => b
+    of_lambda : {G : Scope} {k l : Kd} {b : Cn}
+        → Kinded (bind k G) b l
+        → Kinded G (lambda k b) (to k l)
+    -- ()
+    of_unit : {G : Scope}
+        → Kinded G unit_con units
+    -- #X
+    of_name : {G : Scope} {s : ℕ}
+        → Kinded G (name s) names
+    -- [n = v, ..]
     of_row : {G : Scope} {k : Kd} {ps : Prs}
         → KindedPairs G ps k
         → PairwiseApart G.guards (names_of ps)
         → Kinded G (row k ps) (row_of k)
+    -- a ++ b
     of_cat : {G : Scope} {a b : Cn} {k : Kd}
         → Kinded G a (row_of k)
         → Kinded G b (row_of k)
         → Apart G.guards a b
         → Kinded G (cat a b) (row_of k)
-    of_map : {G : Scope} {k l : Kd} → Kinded G (map_of k l) (to (to k l) (to (row_of k) (row_of l)))
-    of_tuple : {G : Scope} {cs : Cns} {ks : Kds} → KindedAll G cs ks → Kinded G (tuple cs) (tuple_of ks)
+    -- map
+    of_map : {G : Scope} {k l : Kd}
+        → Kinded G (map_of k l) (to (to k l) (to (row_of k) (row_of l)))
+    -- (c, ..)
+    of_tuple : {G : Scope} {cs : Cns} {ks : Kds}
+        → KindedAll G cs ks
+        → Kinded G (tuple cs) (tuple_of ks)
+    -- c.n
     of_proj : {G : Scope} {c : Cn} {ks : Kds} {n : ℕ} {k : Kd}
         → Kinded G c (tuple_of ks)
         → slice_get (kind_list ks) n ≡ Some k
@@ -62,7 +99,8 @@ mutual
 
   -- a tuple's components have these kinds
   pub data KindedAll : Scope → Cns → Kds → Type 0 where
-    no_components : {G : Scope} → KindedAll G no_cons no_kinds
+    no_components : {G : Scope}
+        → KindedAll G no_cons no_kinds
     a_component : {G : Scope} {c : Cn} {cs : Cns} {k : Kd} {ks : Kds}
         → Kinded G c k
         → KindedAll G cs ks
@@ -70,7 +108,8 @@ mutual
 
   -- each field has a name, and a value of this kind
   pub data KindedPairs : Scope → Prs → Kd → Type 0 where
-    no_fields : {G : Scope} {k : Kd} → KindedPairs G no_pairs k
+    no_fields : {G : Scope} {k : Kd}
+        → KindedPairs G no_pairs k
     a_field : {G : Scope} {n v : Cn} {ps : Prs} {k : Kd}
         → Kinded G n names
         → Kinded G v k
