@@ -1,2 +1,4 @@
 pub mod Separation
+pub mod Touching
 pub mod View
+pub mod Laws

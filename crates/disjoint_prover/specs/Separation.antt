@@ -1,4 +1,5 @@
--- How the rules of disjointness are used on normal forms: which pieces they separate, and the first pair that they don't.
+-- How the rules of disjointness are used on normal forms: which pieces they separate, and the first pair that they
+-- don't.
 -- The Ur/Web Manual, "Record Disjointness".
 use Rattle.std.specs.Prelude.{Bool, true, false, ◌&&◌, ◌||◌, not, List, [], ◌∷◌, ◌++◌, Option, map}
 use Rattle.std.specs.List.{find}

@@ -28,3 +28,8 @@ Tells Memory first = Unit {0}
 -- a call succeeds exactly where there is no such pair, and refuses with the first; or it wants memory
 abbrev pub Gives : {X : Type 0} → Result X DisjointFault → Option (Cn × Cn) → Type 0
 Gives result first = MatchResult result (λ _. first ≡ None) (λ fault. Tells fault first)
+
+-- what holds of the two pieces that a refusal tells
+abbrev pub IfTouch : DisjointFault → (Cn → Cn → Type 0) → Type 0
+IfTouch (Touch p) P = P (con_tree p.left) (con_tree p.right)
+IfTouch Memory P = Unit {0}

@@ -8,10 +8,10 @@ ghost use Rattle.disjoint_prover.specs.View.{sides_tree};
 ghost use Rattle.row_normal.specs.View.{normal_tree};
 
 use con_terms::con::Con;
+use con_terms::copy::copy_con;
 use con_terms::size::has_room;
-use con_terms::substitute::{copy_con, shift};
+use con_terms::substitute::shift;
 use row_normal::form::Normal;
-use row_normal::normal::con_of;
 use std::alloc::{AllocError, Global};
 
 /// The two sides of a guard, as normal forms.
@@ -43,11 +43,12 @@ impl Guards {
 
     /// Assumes that two rows are apart.
     pub fn assume(&mut self, left: &Normal, right: &Normal) -> Result<(), AllocError>
-        ensures assumed { OnOk result (guard_list self.new ≡ (normal_tree left.now, normal_tree right.now) ∷ guard_list self.old) }
+        ensures assumed { OnOk result
+            (guard_list self.new ≡ (normal_tree left.now, normal_tree right.now) ∷ guard_list self.old) }
         ensures kept { OnErr result (guard_list self.new ≡ guard_list self.old) }
     {
-        let left = con_of(self.alloc, left)?;
-        let right = con_of(self.alloc, right)?;
+        let left = copy_con(self.alloc, left.con())?;
+        let right = copy_con(self.alloc, right.con())?;
         self.sides.insert(0, Sides { left, right })?;
         Ok(())
     }
@@ -68,7 +69,8 @@ impl Guards {
 
     /// The guards as they are seen from under one more binder.
     pub fn under_binder(&self) -> Result<Guards, AllocError>
-        ensures { IfOk result (λ g. guard_list g ≡ map (λ (s : Cn × Cn). (shifted 1 s.0 0, shifted 1 s.1 0)) (guard_list self.now)) }
+        ensures { IfOk result
+            (λ g. guard_list g ≡ map (λ (s : Cn × Cn). (shifted 1 s.0 0, shifted 1 s.1 0)) (guard_list self.now)) }
     {
         let mut sides = Vec::new(self.alloc);
         for i in 0..self.sides.len() {
@@ -81,16 +83,7 @@ impl Guards {
     }
 }
 
-// A copy of a constructor. One without room for a shift counts as want of memory.
-pub fn copied(alloc: Global, c: &Con) -> Result<Con, AllocError>
-    ensures { IfOk result (λ new. con_tree new ≡ con_tree c.now) }
-{
-    if !has_room(c) {
-        return Err(AllocError);
-    }
-    copy_con(alloc, c)
-}
-
+/// A constructor as it is seen from under one more binder. One without room for that counts as want of memory.
 fn raised(alloc: Global, c: &Con) -> Result<Con, AllocError>
     ensures { IfOk result (λ new. con_tree new ≡ shifted 1 (con_tree c.now) 0) }
 {
@@ -100,16 +93,19 @@ fn raised(alloc: Global, c: &Con) -> Result<Con, AllocError>
     shift(alloc, c, 1, 0)
 }
 
+/// A copy of a guard's sides.
 fn copy_sides(alloc: Global, s: &Sides) -> Result<Sides, AllocError>
     ensures { IfOk result (λ new. sides_tree new ≡ sides_tree s.now) }
 {
-    let left = copied(alloc, &s.left)?;
-    let right = copied(alloc, &s.right)?;
+    let left = copy_con(alloc, &s.left)?;
+    let right = copy_con(alloc, &s.right)?;
     Ok(Sides { left, right })
 }
 
+/// A guard's sides as they are seen from under one more binder.
 fn raise_sides(alloc: Global, s: &Sides) -> Result<Sides, AllocError>
-    ensures { IfOk result (λ new. sides_tree new ≡ (shifted 1 (sides_tree s.now).0 0, shifted 1 (sides_tree s.now).1 0)) }
+    ensures { IfOk result
+        (λ new. sides_tree new ≡ (shifted 1 (sides_tree s.now).0 0, shifted 1 (sides_tree s.now).1 0)) }
 {
     let left = raised(alloc, &s.left)?;
     let right = raised(alloc, &s.right)?;

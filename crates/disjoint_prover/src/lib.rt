@@ -5,4 +5,5 @@
 
 pub mod fault;
 pub mod guards;
+pub mod laws;
 pub mod prover;
