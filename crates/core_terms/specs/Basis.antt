@@ -1,5 +1,6 @@
 -- The values that every program has, with their types.
--- The Ur/Web Manual, "The Ur Standard Library" and "The Ur/Web Standard Library"; the order of implicit arguments and guards is this project's own.
+-- The Ur/Web Manual, "The Ur Standard Library" and "The Ur/Web Standard Library"; the order of implicit arguments and
+-- guards is this project's own.
 use Rattle.std.specs.Prelude.{ℕ, [], ◌∷◌, true, false}
 use Rattle.con_terms.specs.Trees.{Kd, types, units, names, row_of, to, Cn, var, basic, arrow, poly, guarded, app, unit_con, row, cat, no_pairs, pair}
 use Rattle.core_terms.specs.declared.basis.BasisName.{BasisName}
@@ -30,7 +31,9 @@ abbrev pub basis_type : BasisName → Cn
 -- t ::: Type -> t -> transaction t
 basis_type Return = for_type (function (var 0 ∷ []) (transaction_of (var 0)))
 -- t ::: Type -> u ::: Type -> transaction t -> (t -> transaction u) -> transaction u
-basis_type Bind = for_type (for_type (function (transaction_of (var 1) ∷ arrow (var 1) (transaction_of (var 0)) ∷ []) (transaction_of (var 0))))
+basis_type Bind =
+    for_type (for_type (function (transaction_of (var 1) ∷ arrow (var 1) (transaction_of (var 0))
+    ∷ []) (transaction_of (var 0))))
 -- t ::: Type -> xbody -> t
 basis_type Error = for_type (function (body_type ∷ []) (var 0))
 basis_type Not = arrow bool_type bool_type
@@ -53,14 +56,19 @@ basis_type MkShow = for_type (function (arrow (var 0) string_type ∷ []) (show_
 -- t ::: Type -> (t -> t -> bool) -> eq t
 basis_type MkEq = for_type (function (arrow (var 0) (arrow (var 0) bool_type) ∷ []) (eq_of (var 0)))
 -- t ::: Type -> ctx ::: {Unit} -> use ::: {Type} -> show t -> t -> xml ctx use []
-basis_type Txt = poly true types (poly true (row_of units) (poly true (row_of types) (function (show_of (var 2) ∷ var 2 ∷ []) (xml_of (var 1) (var 0) no_types))))
+basis_type Txt =
+    poly true types (poly true (row_of units) (poly true (row_of types) (function (show_of (var 2) ∷ var 2
+    ∷ []) (xml_of (var 1) (var 0) no_types))))
 -- ctx ::: {Unit} -> use ::: {Type} -> string -> xml ctx use []
-basis_type Cdata = poly true (row_of units) (poly true (row_of types) (function (string_type ∷ []) (xml_of (var 1) (var 0) no_types)))
--- ctx ::: {Unit} -> u ::: {Type} -> b ::: {Type} -> c ::: {Type} -> [u ~ b] => [b ~ c] => xml ctx u b -> xml ctx (u ++ b) c -> xml ctx u (b ++ c)
+basis_type Cdata =
+    poly true (row_of units) (poly true (row_of types) (function (string_type ∷ []) (xml_of (var 1) (var 0) no_types)))
+-- ctx ::: {Unit} -> u ::: {Type} -> b ::: {Type} -> c ::: {Type} -> [u ~ b] => [b ~ c] => xml ctx u b -> xml ctx (u
+-- ++ b) c -> xml ctx u (b ++ c)
 basis_type Join =
     poly true (row_of units) (poly true (row_of types) (poly true (row_of types) (poly true (row_of types)
     (guarded (var 2) (var 1) (guarded (var 1) (var 0)
-    (function (xml_of (var 3) (var 2) (var 1) ∷ xml_of (var 3) (cat (var 2) (var 1)) (var 0) ∷ []) (xml_of (var 3) (var 2) (cat (var 1) (var 0)))))))))
+    (function (xml_of (var 3) (var 2) (var 1) ∷ xml_of (var 3) (cat (var 2) (var 1)) (var 0)
+        ∷ []) (xml_of (var 3) (var 2) (cat (var 1) (var 0)))))))))
 basis_type Bless = arrow string_type url_type
 -- ts ::: {{Type}} -> es ::: {Type} -> [ts ~ es] => s ::: Type ->
 -- sql_query ts es -> ($(es ++ map (fn f :: {Type} => $f) ts) -> s -> transaction s) -> s -> transaction s

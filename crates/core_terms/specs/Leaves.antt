@@ -1,4 +1,5 @@
--- What whoever builds a program sees to at its leaves: each name of a field, an input or a constructor has a text, each number fits in 64 bits, and each text is UTF-8.
+-- What whoever builds a program sees to at its leaves: each name of a field, an input or a constructor has a text,
+-- each number fits in 64 bits, and each text is UTF-8.
 -- The walks go through every constructor, pattern and term.
 use Rattle.std.specs.Prelude.{ℕ, ◌<◌, List, Option, Some, None, IsUtf8, FitsSigned}
 use Rattle.std.specs.Int.{w64}
@@ -115,7 +116,8 @@ abbrev mutual
   FieldsFit n (field p c e fs) = NamesThere n c × TermFits n e × FieldsFit n fs
 
   pub ElementFits : ℕ → El → Type 0
-  ElementFits n (tagged g x c u as' xs) = FieldNameThere n x × NamesThere n c × NamesThere n u × AttributesFit n as' × NodesFit n xs
+  ElementFits n (tagged g x c u as' xs) =
+      FieldNameThere n x × NamesThere n c × NamesThere n u × AttributesFit n as' × NodesFit n xs
 
   pub AttributesFit : ℕ → Ats → Type 0
   AttributesFit n no_attributes = Unit {0}
@@ -139,7 +141,9 @@ AllThere n xs = AllByRecursion (λ x. x < n) xs
 
 -- a datatype's names have texts
 abbrev pub DatatypeFits : ℕ → Dt → Type 0
-DatatypeFits n d = AllThere n d.path × (d.name < n) × (d.symbol < n) × AllThere n d.parameters × AllByRecursion (ConstructorFits n) d.constructors
+DatatypeFits n d =
+    AllThere n d.path × (d.name < n) × (d.symbol < n) × AllThere n d.parameters × AllByRecursion
+    (ConstructorFits n) d.constructors
 
 abbrev pub SortFits : ℕ → Th → Type 0
 SortFits n (a_table cs) = AllByRecursion (λ c. c.1 < n) cs

@@ -183,7 +183,8 @@ pub record Ru : Type 0 where
   pub allow : Bool
   pub pattern : List ℕ
 
--- a program: the texts of its symbols, the modules' names, its declarations, the rules on addresses, the foreign effects by module and name, the symbol of folder at each kind, and the values that a request may name
+-- a program: the texts of its symbols, the modules' names, its declarations, the rules on addresses, the foreign
+-- effects by module and name, the symbol of folder at each kind, and the values that a request may name
 pub record Pg : Type 0 where
   pub names : List (List ℕ)
   pub modules : List (List ℕ)

@@ -59,7 +59,8 @@ unit_pairs (n ∷ ns) = pair (name n) unit_con (unit_pairs ns)
 abbrev pub unit_row : List ℕ → Cn
 unit_row ns = row units (unit_pairs ns)
 
--- xml ctx use bind: a tree that may stand in ctx, in a form whose fields `use` are filled before it, and that fills `bind`
+-- xml ctx use bind: a tree that may stand in ctx, in a form whose fields `use` are filled before it, and that fills
+-- `bind`
 abbrev pub xml_of : Cn → Cn → Cn → Cn
 xml_of ctx uses fills = app (app (app (basic xml_name) ctx) uses) fills
 

@@ -32,17 +32,17 @@ shape_class (parameter i) = 4
 two_forms : {t u m n : Cn} → t ≡ u → normal_of t ≡ Some m → normal_of u ≡ Some n → m ≡ n
 two_forms {m = m} {n = n} e h k = let both : Some m ≡ Some n = sym h ∙ ap normal_of e ∙ k in cc
 
-seen_so : {ds : List Dt} {t u m n : Cn} {x : Seen} → t ≡ u → normal_of t ≡ Some m → normal_of u ≡ Some n → seen ds n ≡ x → class (seen ds m) ≡ class x
-seen_so {ds} e h k i = ap (λ c. class (seen ds c)) (two_forms e h k) ∙ ap class i
+seen_so : (ds : List Dt) {t u m n : Cn} {x : Seen} → t ≡ u → normal_of t ≡ Some m → normal_of u ≡ Some n → seen ds n ≡ x → class (seen ds m) ≡ class x
+seen_so ds e h k i = ap (λ c. class (seen ds c)) (two_forms e h k) ∙ ap class i
 
 shaped_class : {names : List (List ℕ)} {ds : List Dt} {k : ℕ} {t u m : Cn} {s : Sh} → t ≡ u → normal_of t ≡ Some m → Shaped names ds k u s → class (seen ds m) ≡ shape_class s
-shaped_class q m (of_int h e) = seen_so q m h e
-shaped_class q m (of_text h e) = seen_so q m h e
-shaped_class q m (of_truth h e b) = seen_so q m h e
-shaped_class q m (of_datatype h e b i as') = seen_so q m h e
-shaped_class q m (of_nothing h e) = seen_so q m h refl
-shaped_class q m (of_fields h e fs) = seen_so q m h refl
-shaped_class q m (of_parameter h i) = seen_so q m h refl
+shaped_class {ds = ds} q m (of_int h e) = seen_so ds q m h e
+shaped_class {ds = ds} q m (of_text h e) = seen_so ds q m h e
+shaped_class {ds = ds} q m (of_truth h e b) = seen_so ds q m h e
+shaped_class {ds = ds} q m (of_datatype h e b i as') = seen_so ds q m h e
+shaped_class {ds = ds} q m (of_nothing h e) = seen_so ds q m h refl
+shaped_class {ds = ds} q m (of_fields h e fs) = seen_so ds q m h refl
+shaped_class {ds = ds} q m (of_parameter h i) = seen_so ds q m h refl
 
 -- two shapes of one type are of one class
 one_class : {names : List (List ℕ)} {ds : List Dt} {k : ℕ} {t u m : Cn} {s r : Sh} → t ≡ u → normal_of t ≡ Some m → Shaped names ds k t s → Shaped names ds k u r → shape_class s ≡ shape_class r
@@ -52,8 +52,8 @@ one_class q m a b = sym (shaped_class refl m a) ∙ shaped_class q m b
 abbrev pub OnePlace : List Dt → Type 0
 OnePlace ds = (i j : ℕ) (d : Dt) → slice_get ds i ≡ Some d → slice_get ds j ≡ Some d → i ≡ j
 
-same_data : {ds : List Dt} {t u m n : Cn} {d b : Dt} {args more : List Cn} → t ≡ u → normal_of t ≡ Some m → normal_of u ≡ Some n → seen ds m ≡ a_datatype d args → seen ds n ≡ a_datatype b more → (d ≡ b) × (args ≡ more)
-same_data {ds} {d = d} {b = b} {args = args} {more = more} q h g e f =
+same_data : (ds : List Dt) {t u m n : Cn} {d b : Dt} {args more : List Cn} → t ≡ u → normal_of t ≡ Some m → normal_of u ≡ Some n → seen ds m ≡ a_datatype d args → seen ds n ≡ a_datatype b more → (d ≡ b) × (args ≡ more)
+same_data ds {d = d} {b = b} {args = args} {more = more} q h g e f =
     let both : a_datatype d args ≡ a_datatype b more = sym e ∙ ap (seen ds) (two_forms q h g) ∙ f in
     (first both, second both)
   where
@@ -77,8 +77,8 @@ tails e = cc
 no_fields_there : {P X : Type 0} {x : X} {xs : List X} → [] ≡ x ∷ xs → P
 no_fields_there e = cc
 
-same_text : {names : List (List ℕ)} {x y : ℕ} {n m : List ℕ} → x ≡ y → slice_get names x ≡ Some n → slice_get names y ≡ Some m → n ≡ m
-same_text {names} {n = n} {m = m} e h g = let both : Some n ≡ Some m = sym h ∙ ap (slice_get names) e ∙ g in cc
+same_text : (names : List (List ℕ)) {x y : ℕ} {n m : List ℕ} → x ≡ y → slice_get names x ≡ Some n → slice_get names y ≡ Some m → n ≡ m
+same_text names {n = n} {m = m} e h g = let both : Some n ≡ Some m = sym h ∙ ap (slice_get names) e ∙ g in cc
 
 mutual
   -- a type has one shape
@@ -100,15 +100,15 @@ mutual
   one_shape o (of_truth h e b) (of_int g f) q = let z : ◌≡◌ {A = ℕ} 2 0 = one_class q h (of_truth h e b) (of_int g f) in absurd (omega (arith, z))
   one_shape o (of_truth h e b) (of_text g f) q = let z : ◌≡◌ {A = ℕ} 2 1 = one_class q h (of_truth h e b) (of_text g f) in absurd (omega (arith, z))
   one_shape o (of_truth h e b) (of_truth g f c) q = refl
-  one_shape o (of_truth h e b) (of_datatype g f c j bs) q = absurd (c (ap (λ (d : Dt). d.symbol) (sym (same_data q h g e f).0) ∙ b))
+  one_shape {ds = ds} o (of_truth h e b) (of_datatype g f c j bs) q = absurd (c (ap (λ (d : Dt). d.symbol) (sym (same_data ds q h g e f).0) ∙ b))
   one_shape o (of_truth h e b) (of_nothing g f) q = let z : ◌≡◌ {A = ℕ} 2 3 = one_class q h (of_truth h e b) (of_nothing g f) in absurd (omega (arith, z))
   one_shape o (of_truth h e b) (of_fields g f gs) q = let z : ◌≡◌ {A = ℕ} 2 3 = one_class q h (of_truth h e b) (of_fields g f gs) in absurd (omega (arith, z))
   one_shape o (of_truth h e b) (of_parameter g j) q = let z : ◌≡◌ {A = ℕ} 2 4 = one_class q h (of_truth h e b) (of_parameter g j) in absurd (omega (arith, z))
   one_shape o (of_datatype h e b i as') (of_int g f) q = let z : ◌≡◌ {A = ℕ} 2 0 = one_class q h (of_datatype h e b i as') (of_int g f) in absurd (omega (arith, z))
   one_shape o (of_datatype h e b i as') (of_text g f) q = let z : ◌≡◌ {A = ℕ} 2 1 = one_class q h (of_datatype h e b i as') (of_text g f) in absurd (omega (arith, z))
-  one_shape o (of_datatype h e b i as') (of_truth g f c) q = absurd (b (ap (λ (d : Dt). d.symbol) (same_data q h g e f).0 ∙ c))
+  one_shape {ds = ds} o (of_datatype h e b i as') (of_truth g f c) q = absurd (b (ap (λ (d : Dt). d.symbol) (same_data ds q h g e f).0 ∙ c))
   one_shape {names} {ds} {k} o (of_datatype {i = i} {d = d} {ss = ss} h e b at as') (of_datatype {i = j} {ss = rs} g f c there bs) q =
-      let (same, args) = same_data q h g e f in
+      let (same, args) = same_data ds q h g e f in
       let place : i ≡ j = o i j d at (there ∙ ap (λ x. Some x) (sym same)) in
       ap (λ n. a_data n ss) place ∙ ap (a_data j) (all_one_shape o as' bs args)
   one_shape o (of_datatype h e b i as') (of_nothing g f) q = let z : ◌≡◌ {A = ℕ} 2 3 = one_class q h (of_datatype h e b i as') (of_nothing g f) in absurd (omega (arith, z))
@@ -147,8 +147,8 @@ mutual
   fields_one_shape o no_field_shaped no_field_shaped q = refl
   fields_one_shape o no_field_shaped (field_shaped f b bs) q = no_fields_there q
   fields_one_shape o (field_shaped e a as') no_field_shaped q = no_fields_there (sym q)
-  fields_one_shape o (field_shaped {s = s} {ps = ps} e a as') (field_shaped {name = n} {s = r} f b bs) q =
-      let text = same_text (ap (λ (z : ℕ × Cn). z.0) (heads q)) e f in
+  fields_one_shape {names = names} o (field_shaped {s = s} {ps = ps} e a as') (field_shaped {name = n} {s = r} f b bs) q =
+      let text = same_text names (ap (λ (z : ℕ × Cn). z.0) (heads q)) e f in
       let one = one_shape o a b (ap (λ (z : ℕ × Cn). z.1) (heads q)) in
       ap (λ m. put_part m s ps) text ∙ ap (λ x. put_part n x ps) one ∙ ap (put_part n r) (fields_one_shape o as' bs (tails q))
 
@@ -158,8 +158,8 @@ held_one_shape o (holds_one a) (holds_one b) = ap (λ s. Some s) (one_shape o a 
 
 one_case_each : {names : List (List ℕ)} {ds : List Dt} {k : ℕ} {cs : List Cd} {xs ys : Cases} → OnePlace ds → CasesShaped names ds k cs xs → CasesShaped names ds k cs ys → xs ≡ ys
 one_case_each o no_case no_case = refl
-one_case_each {xs = xs} {ys = ys} o (a_case {held = x} {rest = rest} e h r) (a_case {name = n} {held = y} f g t) =
-    ap (λ m. (m, x) ∷ rest) (same_text refl e f) ∙ ap (λ z. (n, z) ∷ rest) (held_one_shape o h g) ∙ ap (λ zs. (n, y) ∷ zs) (one_case_each o r t)
+one_case_each {names = names} o (a_case {held = x} {rest = rest} e h r) (a_case {name = n} {held = y} f g t) =
+    ap (λ m. (m, x) ∷ rest) (same_text names refl e f) ∙ ap (λ z. (n, z) ∷ rest) (held_one_shape o h g) ∙ ap (λ zs. (n, y) ∷ zs) (one_case_each o r t)
 
 pub one_shape_each : {names : List (List ℕ)} {all ds : List Dt} {xs ys : List Cases} → OnePlace all → DatatypesShaped names all ds xs → DatatypesShaped names all ds ys → xs ≡ ys
 one_shape_each o no_datatype no_datatype = refl

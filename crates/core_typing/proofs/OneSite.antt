@@ -78,26 +78,26 @@ form_one o (form_behind {ss = ss} e c s r) (form_behind {s = y} f d z k) q =
 abbrev entry_for : Pg → Value → Shs → Option Sh → Ent
 entry_for p v ss f = record { name = value_name p v; arguments = ss; form = f }
 
-same_value : {p : Pg} {i : ℕ} {v w : Value} → slice_get (values p.decls) i ≡ Some v → slice_get (values p.decls) i ≡ Some w → v ≡ w
-same_value h g = some_is (sym h ∙ g)
+same_value : (p : Pg) (i : ℕ) {v w : Value} → slice_get (values p.decls) i ≡ Some v → slice_get (values p.decls) i ≡ Some w → v ≡ w
+same_value p i h g = some_is (sym h ∙ g)
 
-get_one : {p : Pg} {i : ℕ} {v w : Value} {ss rs : Shs} → OnePlace (all_datatypes p) → slice_get (values p.decls) i ≡ Some v → slice_get (values p.decls) i ≡ Some w → TakesToPage p v.con ss → TakesToPage p w.con rs → entry_for p v ss None ≡ entry_for p w rs None
-get_one {p} {i} {v} {w} {ss} o h g a b =
-    let same : v ≡ w = same_value {p} {i} h g in
+get_one : (p : Pg) (i : ℕ) {v w : Value} {ss rs : Shs} → OnePlace (all_datatypes p) → slice_get (values p.decls) i ≡ Some v → slice_get (values p.decls) i ≡ Some w → TakesToPage p v.con ss → TakesToPage p w.con rs → entry_for p v ss None ≡ entry_for p w rs None
+get_one p i {v} {w} {ss} o h g a b =
+    let same : v ≡ w = same_value p i h g in
     ap (λ (x : Value). entry_for p x ss None) same ∙ ap (λ xs. entry_for p w xs None) (takes_one o a b (ap (λ (x : Value). x.con) same))
 
-post_one : {p : Pg} {i : ℕ} {v w : Value} {ss rs : Shs} {f g : Sh} → OnePlace (all_datatypes p) → slice_get (values p.decls) i ≡ Some v → slice_get (values p.decls) i ≡ Some w → TakesFormToPage p v.con ss f → TakesFormToPage p w.con rs g → entry_for p v ss (Some f) ≡ entry_for p w rs (Some g)
-post_one {p} {i} {v} {w} {ss} {rs} {f} o h g a b =
-    let same : v ≡ w = same_value {p} {i} h g in
+post_one : (p : Pg) (i : ℕ) {v w : Value} {ss rs : Shs} {f g : Sh} → OnePlace (all_datatypes p) → slice_get (values p.decls) i ≡ Some v → slice_get (values p.decls) i ≡ Some w → TakesFormToPage p v.con ss f → TakesFormToPage p w.con rs g → entry_for p v ss (Some f) ≡ entry_for p w rs (Some g)
+post_one p i {v} {w} {ss} {rs} {f} o h g a b =
+    let same : v ≡ w = same_value p i h g in
     let (more, last) = form_one o a b (ap (λ (x : Value). x.con) same) in
     ap (λ (x : Value). entry_for p x ss (Some f)) same ∙ ap (λ xs. entry_for p w xs (Some f)) more ∙ ap (λ x. entry_for p w rs (Some x)) last
 
 entry_one : {p : Pg} {i : ℕ} {post : Bool} {e d : Ent} → OnePlace (all_datatypes p) → IsEntry p i post e → IsEntry p i post d → e ≡ d
-entry_one {i = i} o (by_export h c a) (by_export g k b) = get_one {i = i} o h g a b
-entry_one {i = i} o (by_export h c a) (by_link g k b) = get_one {i = i} o h g a b
-entry_one {i = i} o (by_link h c a) (by_export g k b) = get_one {i = i} o h g a b
-entry_one {i = i} o (by_link h c a) (by_link g k b) = get_one {i = i} o h g a b
-entry_one {i = i} o (by_action h c a) (by_action g k b) = post_one {i = i} o h g a b
+entry_one {p} {i} o (by_export h c a) (by_export g k b) = get_one p i o h g a b
+entry_one {p} {i} o (by_export h c a) (by_link g k b) = get_one p i o h g a b
+entry_one {p} {i} o (by_link h c a) (by_export g k b) = get_one p i o h g a b
+entry_one {p} {i} o (by_link h c a) (by_link g k b) = get_one p i o h g a b
+entry_one {p} {i} o (by_action h c a) (by_action g k b) = post_one p i o h g a b
 
 one_list : {p : Pg} {i : ℕ} {vs : List Value} {xs ys : List (ℕ × Ent)} → OnePlace (all_datatypes p) → EntriesFrom p i vs xs → EntriesFrom p i vs ys → xs ≡ ys
 one_list o no_values no_values = refl

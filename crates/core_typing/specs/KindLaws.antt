@@ -62,10 +62,12 @@ KindsSubstitute = (G : Scope) (l : Kd) (a c : Cn) (k : Kd)
     → Kinded (bind l G) c k
     → Kinded G (subst c a) k
 
--- The values of the basis have types, and the types of the basis have their kinds, in every scope of an accepted program.
+-- The values of the basis have types, and the types of the basis have their kinds, in every scope of an accepted
+-- program.
 abbrev pub BasisHasKinds : Type 0
 BasisHasKinds = (G : Sc) → HasTypes G
-    → ((b : BasisName) → Kinded G.kinds (basis_type b) types) × ((t : TypeName) → Kinded G.kinds (named_type t) (named_kind t))
+    → ((b : BasisName) → Kinded G.kinds (basis_type b) types) ×
+        ((t : TypeName) → Kinded G.kinds (named_type t) (named_kind t))
 
 -- A step keeps a constructor's kind.
 abbrev pub StepsKeepKinds : Type 0

@@ -222,7 +222,8 @@ fn cdata_type(alloc: Global) -> Result<Con, AllocError>
 /// `xml ctx u b -> xml ctx (u ++ b) c -> xml ctx u (b ++ c)`, where these have the numbers 3 to 0
 fn joins(alloc: Global) -> Result<Con, AllocError>
     ensures { IfOk result (λ new. con_tree new ≡ types.function
-        (types.xml_of (tree.var 3) (tree.var 2) (tree.var 1) ∷ types.xml_of (tree.var 3) (tree.cat (tree.var 2) (tree.var 1)) (tree.var 0) ∷ [])
+        (types.xml_of (tree.var 3) (tree.var 2) (tree.var 1) ∷ types.xml_of (tree.var 3) (tree.cat (tree.var 2)
+        (tree.var 1)) (tree.var 0) ∷ [])
         (types.xml_of (tree.var 3) (tree.var 2) (tree.cat (tree.var 1) (tree.var 0)))) }
 {
     let first = xml_of(alloc, Con::Var(3), Con::Var(2), Con::Var(1))?;

@@ -23,7 +23,8 @@ fn rows_of(alloc: Global, kind: &Kind) -> Result<Kind, AllocError>
 /// `tf r -> tf ([nm = v] ++ r)`, where these have the numbers 3, 0, 2, 1
 fn visit(alloc: Global, kind: &Kind) -> Result<Con, AllocError>
     ensures { IfOk result (λ new. con_tree new ≡ tree.arrow (tree.app (tree.var 3) (tree.var 0))
-        (tree.app (tree.var 3) (tree.cat (tree.row (kind_tree kind.now) (tree.pair (tree.var 2) (tree.var 1) tree.no_pairs)) (tree.var 0)))) }
+        (tree.app (tree.var 3) (tree.cat (tree.row (kind_tree kind.now) (tree.pair (tree.var 2)
+        (tree.var 1) tree.no_pairs)) (tree.var 0)))) }
 {
     let before = applied(alloc, Con::Var(3), Con::Var(0))?;
     let field = field_row(alloc, copy_kind(alloc, kind)?, Con::Var(2), Con::Var(1))?;

@@ -69,7 +69,8 @@ pub fn mapped(
     function: Con,
     row: Con,
 ) -> Result<Con, AllocError>
-    ensures { IfOk result (λ new. con_tree new ≡ mapped_row (kind_tree from) (kind_tree to) (con_tree function) (con_tree row)) }
+    ensures { IfOk result (λ new. con_tree new ≡
+        mapped_row (kind_tree from) (kind_tree to) (con_tree function) (con_tree row)) }
 {
     let map = Con::Map(Box::new(alloc, from)?, Box::new(alloc, to)?);
     let function = applied(alloc, map, function)?;
@@ -99,7 +100,8 @@ pub fn empty_row(alloc: Global, kind: Kind) -> Result<Con, AllocError>
 
 /// `[name = value]`, where the value has this kind
 pub fn field_row(alloc: Global, kind: Kind, name: Con, value: Con) -> Result<Con, AllocError>
-    ensures { IfOk result (λ new. con_tree new ≡ tree.row (kind_tree kind) (tree.pair (con_tree name) (con_tree value) tree.no_pairs)) }
+    ensures { IfOk result (λ new. con_tree new ≡
+        tree.row (kind_tree kind) (tree.pair (con_tree name) (con_tree value) tree.no_pairs)) }
 {
     let fields = with_field(alloc, name, value)?;
     Ok(Con::Row(Box::new(alloc, kind)?, fields))
@@ -113,7 +115,8 @@ pub fn two_field_row(
     second: Pair,
 ) -> Result<Con, AllocError>
     ensures { IfOk result (λ new. con_tree new ≡ tree.row (kind_tree kind)
-        (tree.pair (con_tree first.name) (con_tree first.value) (tree.pair (con_tree second.name) (con_tree second.value) tree.no_pairs))) }
+        (tree.pair (con_tree first.name) (con_tree first.value) (tree.pair (con_tree second.name)
+        (con_tree second.value) tree.no_pairs))) }
 {
     let mut items = Vec::new(alloc);
     items.push(first)?;

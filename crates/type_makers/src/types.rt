@@ -225,7 +225,8 @@ pub fn two_units(alloc: Global, name: Sym, other: Sym) -> Result<Con, AllocError
 
 /// `xml [name] [] []`
 fn plain_xml_at(alloc: Global, name: Sym) -> Result<Con, AllocError>
-    ensures { IfOk result (λ new. con_tree new ≡ meant.xml_of (meant.unit_row (name.number ∷ [])) meant.no_types meant.no_types) }
+    ensures { IfOk result (λ new. con_tree new ≡
+        meant.xml_of (meant.unit_row (name.number ∷ [])) meant.no_types meant.no_types) }
 {
     let context = one_unit(alloc, name)?;
     let uses = no_types(alloc)?;

@@ -1,0 +1,9 @@
+use Rattle.std.proofs.Common.{◌≡◌, [], length, map}
+use Rattle.type_makers.specs.Tables.{put_texts}
+use Rattle.type_makers.proofs.symbols.table_of.Given as goal
+
+abbrev pub invariant-loop-texts : goal.invariant-loop-texts
+invariant-loop-texts l = put_texts l.table (map (λ t. t.now) l.texts) ≡ put_texts [] (map (λ t. t.now) l.fn.texts)
+
+abbrev pub decreases-loop-texts : goal.decreases-loop-texts
+decreases-loop-texts l = length l.texts
