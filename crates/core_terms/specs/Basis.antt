@@ -74,16 +74,16 @@ basis_type Bless = arrow string_type url_type
 -- sql_query ts es -> ($(es ++ map (fn f :: {Type} => $f) ts) -> s -> transaction s) -> s -> transaction s
 basis_type Query =
     for_results (poly true types (function (
-        query_of (var 2) (var 1)
-        ∷ arrow (result_of (var 2) (var 1)) (arrow (var 0) (transaction_of (var 0)))
-        ∷ var 0 ∷ [])
+    query_of (var 2) (var 1)
+    ∷ arrow (result_of (var 2) (var 1)) (arrow (var 0) (transaction_of (var 0)))
+    ∷ var 0 ∷ [])
     (transaction_of (var 0))))
 -- ts ::: {{Type}} -> es ::: {Type} -> [ts ~ es] => ctx ::: {Unit} ->
 -- sql_query ts es -> ($(es ++ map (fn f :: {Type} => $f) ts) -> xml ctx [] []) -> transaction (xml ctx [] [])
 basis_type QueryX =
     for_results (poly true (row_of units) (function (
-        query_of (var 2) (var 1)
-        ∷ arrow (result_of (var 2) (var 1)) (plain_xml (var 0)) ∷ [])
+    query_of (var 2) (var 1)
+    ∷ arrow (result_of (var 2) (var 1)) (plain_xml (var 0)) ∷ [])
     (transaction_of (plain_xml (var 0)))))
 -- ts ::: {{Type}} -> es ::: {Type} -> [ts ~ es] =>
 -- sql_query ts es -> transaction $(es ++ map (fn f :: {Type} => $f) ts)

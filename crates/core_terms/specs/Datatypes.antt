@@ -17,8 +17,15 @@ constructor_of n held = record { place = nowhere; name = n; holds = held }
 
 -- a datatype that every program has: its name is its symbol
 abbrev pub basis_datatype : ℕ → List ℕ → List Cd → Dt
-basis_datatype s xs cs =
-    record { path = []; place = nowhere; home = None; name = s; symbol = s; parameters = xs; constructors = cs }
+basis_datatype s xs cs = record {
+  path = [];
+  place = nowhere;
+  home = None;
+  name = s;
+  symbol = s;
+  parameters = xs;
+  constructors = cs;
+}
 
 -- bool = False | True, option t = None | Some of t, list t = Nil | Cons of t * list t
 abbrev pub basis_datatypes : List Dt
@@ -28,12 +35,10 @@ basis_datatypes =
     ∷ basis_datatype option_name (parameter_name ∷ [])
     (constructor_of none_name None ∷ constructor_of some_name (Some (var 0)) ∷ [])
     ∷ basis_datatype list_name (parameter_name ∷ [])
-    (constructor_of nil_name None
-        ∷ constructor_of cons_name
-        (Some
-        (record_of
-        (type_row (pair (name first_name) (var 0) (pair (name second_name) (at_types (basic list_name) (var 0
-        ∷ [])) no_pairs))))) ∷ [])
+    (constructor_of nil_name None ∷ constructor_of cons_name (Some
+    (record_of (type_row
+    (pair (name first_name) (var 0) (pair (name second_name) (at_types (basic list_name) (var 0 ∷ []))
+    no_pairs))))) ∷ [])
     ∷ []
 
 -- the datatype with a symbol
@@ -65,4 +70,7 @@ own_type d = at_types (basic d.symbol) (parameters_of (arity d))
 
 -- a constructor's type: t ::: Type -> .. -> held -> datatype t ..
 abbrev pub constructor_type : Dt → Cd → Cn
-constructor_type d c = for_types (arity d) (elim (c.holds) [ None ↦ own_type d | Some held ↦ arrow held (own_type d) ])
+constructor_type d c = for_types (arity d) (elim (c.holds) [
+  | None ↦ own_type d
+  | Some held ↦ arrow held (own_type d)
+])

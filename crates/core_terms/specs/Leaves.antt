@@ -116,8 +116,8 @@ abbrev mutual
   FieldsFit n (field p c e fs) = NamesThere n c × TermFits n e × FieldsFit n fs
 
   pub ElementFits : ℕ → El → Type 0
-  ElementFits n (tagged g x c u as' xs) =
-      FieldNameThere n x × NamesThere n c × NamesThere n u × AttributesFit n as' × NodesFit n xs
+  ElementFits n (tagged g x c u as' xs) = FieldNameThere n x × NamesThere n c × NamesThere n u × AttributesFit n as'
+      × NodesFit n xs
 
   pub AttributesFit : ℕ → Ats → Type 0
   AttributesFit n no_attributes = Unit {0}
@@ -141,8 +141,7 @@ AllThere n xs = AllByRecursion (λ x. x < n) xs
 
 -- a datatype's names have texts
 abbrev pub DatatypeFits : ℕ → Dt → Type 0
-DatatypeFits n d =
-    AllThere n d.path × (d.name < n) × (d.symbol < n) × AllThere n d.parameters × AllByRecursion
+DatatypeFits n d = AllThere n d.path × (d.name < n) × (d.symbol < n) × AllThere n d.parameters × AllByRecursion
     (ConstructorFits n) d.constructors
 
 abbrev pub SortFits : ℕ → Th → Type 0

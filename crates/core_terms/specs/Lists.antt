@@ -21,22 +21,40 @@ use Rattle.core_terms.specs.declared.program.Folders.{Folders}
 
 -- what an element stands for
 abbrev pub item_tree : Item → It
-item_tree = fold-Item Fo It Lo AttributeTree Ats BranchTree Brs El Ex Exs FieldTree Fds Its LiteralTree Los NamedTree Nms NodeTree Xs form_step item_step local_step attribute_step attributes_step branch_step branches_step element_step exp_step exps_step field_step fields_step items_step literal_step locals_step named_step named_list_step node_step nodes_step
+item_tree = fold-Item Fo It Lo AttributeTree Ats BranchTree Brs El Ex Exs FieldTree Fds Its LiteralTree Los
+    NamedTree Nms NodeTree Xs form_step item_step local_step attribute_step attributes_step branch_step
+    branches_step element_step exp_step exps_step field_step fields_step items_step literal_step locals_step
+    named_step named_list_step node_step nodes_step
 
 abbrev pub local_tree : Local → Lo
-local_tree = fold-Local Fo It Lo AttributeTree Ats BranchTree Brs El Ex Exs FieldTree Fds Its LiteralTree Los NamedTree Nms NodeTree Xs form_step item_step local_step attribute_step attributes_step branch_step branches_step element_step exp_step exps_step field_step fields_step items_step literal_step locals_step named_step named_list_step node_step nodes_step
+local_tree = fold-Local Fo It Lo AttributeTree Ats BranchTree Brs El Ex Exs FieldTree Fds Its LiteralTree Los
+    NamedTree Nms NodeTree Xs form_step item_step local_step attribute_step attributes_step branch_step
+    branches_step element_step exp_step exps_step field_step fields_step items_step literal_step locals_step
+    named_step named_list_step node_step nodes_step
 
 abbrev pub branch_tree : Branch → BranchTree
-branch_tree = fold-Branch Fo It Lo AttributeTree Ats BranchTree Brs El Ex Exs FieldTree Fds Its LiteralTree Los NamedTree Nms NodeTree Xs form_step item_step local_step attribute_step attributes_step branch_step branches_step element_step exp_step exps_step field_step fields_step items_step literal_step locals_step named_step named_list_step node_step nodes_step
+branch_tree = fold-Branch Fo It Lo AttributeTree Ats BranchTree Brs El Ex Exs FieldTree Fds Its LiteralTree Los
+    NamedTree Nms NodeTree Xs form_step item_step local_step attribute_step attributes_step branch_step
+    branches_step element_step exp_step exps_step field_step fields_step items_step literal_step locals_step
+    named_step named_list_step node_step nodes_step
 
 abbrev pub field_tree : Field → FieldTree
-field_tree = fold-Field Fo It Lo AttributeTree Ats BranchTree Brs El Ex Exs FieldTree Fds Its LiteralTree Los NamedTree Nms NodeTree Xs form_step item_step local_step attribute_step attributes_step branch_step branches_step element_step exp_step exps_step field_step fields_step items_step literal_step locals_step named_step named_list_step node_step nodes_step
+field_tree = fold-Field Fo It Lo AttributeTree Ats BranchTree Brs El Ex Exs FieldTree Fds Its LiteralTree Los
+    NamedTree Nms NodeTree Xs form_step item_step local_step attribute_step attributes_step branch_step
+    branches_step element_step exp_step exps_step field_step fields_step items_step literal_step locals_step
+    named_step named_list_step node_step nodes_step
 
 abbrev pub node_tree : Node → NodeTree
-node_tree = fold-Node Fo It Lo AttributeTree Ats BranchTree Brs El Ex Exs FieldTree Fds Its LiteralTree Los NamedTree Nms NodeTree Xs form_step item_step local_step attribute_step attributes_step branch_step branches_step element_step exp_step exps_step field_step fields_step items_step literal_step locals_step named_step named_list_step node_step nodes_step
+node_tree = fold-Node Fo It Lo AttributeTree Ats BranchTree Brs El Ex Exs FieldTree Fds Its LiteralTree Los
+    NamedTree Nms NodeTree Xs form_step item_step local_step attribute_step attributes_step branch_step
+    branches_step element_step exp_step exps_step field_step fields_step items_step literal_step locals_step
+    named_step named_list_step node_step nodes_step
 
 abbrev pub attribute_tree : Attribute → AttributeTree
-attribute_tree = fold-Attribute Fo It Lo AttributeTree Ats BranchTree Brs El Ex Exs FieldTree Fds Its LiteralTree Los NamedTree Nms NodeTree Xs form_step item_step local_step attribute_step attributes_step branch_step branches_step element_step exp_step exps_step field_step fields_step items_step literal_step locals_step named_step named_list_step node_step nodes_step
+attribute_tree = fold-Attribute Fo It Lo AttributeTree Ats BranchTree Brs El Ex Exs FieldTree Fds Its LiteralTree
+    Los NamedTree Nms NodeTree Xs form_step item_step local_step attribute_step attributes_step branch_step
+    branches_step element_step exp_step exps_step field_step fields_step items_step literal_step locals_step
+    named_step named_list_step node_step nodes_step
 
 abbrev pub pat_field_tree : PatField → PatFieldTree
 pat_field_tree = fold-PatField Pf Pt PatFieldTree Pfs pat_form_step pat_step pat_field_step pat_fields_step

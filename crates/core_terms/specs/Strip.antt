@@ -1,7 +1,7 @@
 -- What is left of a term when what was inserted is dropped: its source, with names resolved.
 -- Dropped are inserted constructors, guards, folders and instances at calls, and a call of which no item is left and
--- before whose head the source has no sigil. A constructor that was found for _ is _ again. Types, rows and contexts
--- that
+-- before whose head the source has no sigil. A constructor that was found for _ is _ again. Types, rows and
+-- contexts that
 -- weren't written become (). A kind that isn't written at a binder is Type, and so belongs to the source.
 use Rattle.std.specs.Prelude.{Bool, true, false}
 use Rattle.con_terms.specs.Trees.{Kd, types, Cn, unit_con}
@@ -82,7 +82,8 @@ abbrev mutual
   strip_form p a (fn_guard c d e) = node p a (fn_guard c d (strip e))
   strip_form p a (call f s is) = call_left p a (strip f) s (strip_items is)
   strip_form p a (let_in ls e) = node p a (let_in (strip_locals ls) (strip e))
-  strip_form p a (case_of e r q b bs) = node p a (case_of (strip e) r (strip_pattern q) (strip b) (strip_branches bs))
+  strip_form p a (case_of e r q b bs) = node p a (case_of (strip e) r (strip_pattern q) (strip b) (strip_branches
+      bs))
   strip_form p a (ascribed e t) = node p a (ascribed (strip e) t)
   strip_form p a (fields_of fs) = node p a (fields_of (strip_fields fs))
   strip_form p a (select e c) = node p a (select (strip e) c)

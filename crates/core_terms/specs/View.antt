@@ -151,7 +151,9 @@ maybe_name (Some n) = Some (n.place, con_tree n.name)
 abbrev pub skeleton_tree : Skeleton → Sk
 skeleton_tree s = blank
 
-abbrev pub form_step : Form-F Fo It Lo AttributeTree Ats BranchTree Brs El Ex Exs FieldTree Fds Its LiteralTree Los NamedTree Nms NodeTree Xs → Fo
+abbrev pub form_step : Form-F Fo It Lo AttributeTree Ats BranchTree Brs El Ex Exs FieldTree Fds Its LiteralTree Los
+    NamedTree Nms NodeTree Xs
+    → Fo
 form_step (Form-F.Var i) = bound i
 form_step (Form-F.Top i) = top i
 form_step (Form-F.Foreign i) = foreign i
@@ -177,95 +179,164 @@ form_step (Form-F.Element m) = element m.value
 form_step (Form-F.Literal l) = literal l.value.0 l.value.1 l.value.2
 form_step (Form-F.Sql k es) = sql (skeleton_tree k) es
 
-abbrev pub item_step : Item-F Fo It Lo AttributeTree Ats BranchTree Brs El Ex Exs FieldTree Fds Its LiteralTree Los NamedTree Nms NodeTree Xs → It
+abbrev pub item_step : Item-F Fo It Lo AttributeTree Ats BranchTree Brs El Ex Exs FieldTree Fds Its LiteralTree Los
+    NamedTree Nms NodeTree Xs
+    → It
 item_step (Item-F.Term e) = a_term e
 item_step (Item-F.Con p a c) = a_con p a (con_tree c)
 item_step (Item-F.Guard p a) = a_guard p a
 
-abbrev pub local_step : Local-F Fo It Lo AttributeTree Ats BranchTree Brs El Ex Exs FieldTree Fds Its LiteralTree Los NamedTree Nms NodeTree Xs → Lo
+abbrev pub local_step : Local-F Fo It Lo AttributeTree Ats BranchTree Brs El Ex Exs FieldTree Fds Its LiteralTree
+    Los NamedTree Nms NodeTree Xs
+    → Lo
 local_step (Local-F.Val n) = a_val n.0 n.1 n.2 n.3 n.4
 local_step (Local-F.ValRec ns) = a_rec ns
 
-abbrev pub attribute_step : Attribute-F Fo It Lo AttributeTree Ats BranchTree Brs El Ex Exs FieldTree Fds Its LiteralTree Los NamedTree Nms NodeTree Xs → AttributeTree
+abbrev pub attribute_step : Attribute-F Fo It Lo AttributeTree Ats BranchTree Brs El Ex Exs FieldTree Fds Its
+    LiteralTree Los NamedTree Nms NodeTree Xs
+    → AttributeTree
 attribute_step a = (a.place, a.name, a.value)
 
-abbrev pub attributes_step : Attributes-F Fo It Lo AttributeTree Ats BranchTree Brs El Ex Exs FieldTree Fds Its LiteralTree Los NamedTree Nms NodeTree Xs → Ats
+abbrev pub attributes_step : Attributes-F Fo It Lo AttributeTree Ats BranchTree Brs El Ex Exs FieldTree Fds Its
+    LiteralTree Los NamedTree Nms NodeTree Xs
+    → Ats
 attributes_step as' = attributes_from as'.items.items
 
-abbrev pub branch_step : Branch-F Fo It Lo AttributeTree Ats BranchTree Brs El Ex Exs FieldTree Fds Its LiteralTree Los NamedTree Nms NodeTree Xs → BranchTree
+abbrev pub branch_step : Branch-F Fo It Lo AttributeTree Ats BranchTree Brs El Ex Exs FieldTree Fds Its LiteralTree
+    Los NamedTree Nms NodeTree Xs
+    → BranchTree
 branch_step b = (b.place, pat_tree b.pat, b.body)
 
-abbrev pub branches_step : Branches-F Fo It Lo AttributeTree Ats BranchTree Brs El Ex Exs FieldTree Fds Its LiteralTree Los NamedTree Nms NodeTree Xs → Brs
+abbrev pub branches_step : Branches-F Fo It Lo AttributeTree Ats BranchTree Brs El Ex Exs FieldTree Fds Its
+    LiteralTree Los NamedTree Nms NodeTree Xs
+    → Brs
 branches_step bs = branches_from bs.items.items
 
-abbrev pub element_step : Element-F Fo It Lo AttributeTree Ats BranchTree Brs El Ex Exs FieldTree Fds Its LiteralTree Los NamedTree Nms NodeTree Xs → El
+abbrev pub element_step : Element-F Fo It Lo AttributeTree Ats BranchTree Brs El Ex Exs FieldTree Fds Its
+    LiteralTree Los NamedTree Nms NodeTree Xs
+    → El
 element_step e = tagged e.tag (maybe_name e.field) (con_tree e.context) (con_tree e.uses) e.attributes e.content
 
-abbrev pub exp_step : Exp-F Fo It Lo AttributeTree Ats BranchTree Brs El Ex Exs FieldTree Fds Its LiteralTree Los NamedTree Nms NodeTree Xs → Ex
+abbrev pub exp_step : Exp-F Fo It Lo AttributeTree Ats BranchTree Brs El Ex Exs FieldTree Fds Its LiteralTree Los
+    NamedTree Nms NodeTree Xs
+    → Ex
 exp_step e = node e.place e.added e.form
 
-abbrev pub exps_step : Exps-F Fo It Lo AttributeTree Ats BranchTree Brs El Ex Exs FieldTree Fds Its LiteralTree Los NamedTree Nms NodeTree Xs → Exs
+abbrev pub exps_step : Exps-F Fo It Lo AttributeTree Ats BranchTree Brs El Ex Exs FieldTree Fds Its LiteralTree Los
+    NamedTree Nms NodeTree Xs
+    → Exs
 exps_step es = exps_from es.items.items
 
-abbrev pub field_step : Field-F Fo It Lo AttributeTree Ats BranchTree Brs El Ex Exs FieldTree Fds Its LiteralTree Los NamedTree Nms NodeTree Xs → FieldTree
+abbrev pub field_step : Field-F Fo It Lo AttributeTree Ats BranchTree Brs El Ex Exs FieldTree Fds Its LiteralTree
+    Los NamedTree Nms NodeTree Xs
+    → FieldTree
 field_step f = (f.place, con_tree f.name, f.value)
 
-abbrev pub fields_step : Fields-F Fo It Lo AttributeTree Ats BranchTree Brs El Ex Exs FieldTree Fds Its LiteralTree Los NamedTree Nms NodeTree Xs → Fds
+abbrev pub fields_step : Fields-F Fo It Lo AttributeTree Ats BranchTree Brs El Ex Exs FieldTree Fds Its LiteralTree
+    Los NamedTree Nms NodeTree Xs
+    → Fds
 fields_step fs = fields_from fs.items.items
 
-abbrev pub items_step : Items-F Fo It Lo AttributeTree Ats BranchTree Brs El Ex Exs FieldTree Fds Its LiteralTree Los NamedTree Nms NodeTree Xs → Its
+abbrev pub items_step : Items-F Fo It Lo AttributeTree Ats BranchTree Brs El Ex Exs FieldTree Fds Its LiteralTree
+    Los NamedTree Nms NodeTree Xs
+    → Its
 items_step is = items_from is.items.items
 
-abbrev pub literal_step : Literal-F Fo It Lo AttributeTree Ats BranchTree Brs El Ex Exs FieldTree Fds Its LiteralTree Los NamedTree Nms NodeTree Xs → LiteralTree
+abbrev pub literal_step : Literal-F Fo It Lo AttributeTree Ats BranchTree Brs El Ex Exs FieldTree Fds Its
+    LiteralTree Los NamedTree Nms NodeTree Xs
+    → LiteralTree
 literal_step l = (con_tree l.context, con_tree l.uses, l.nodes)
 
-abbrev pub node_step : Node-F Fo It Lo AttributeTree Ats BranchTree Brs El Ex Exs FieldTree Fds Its LiteralTree Los NamedTree Nms NodeTree Xs → NodeTree
+abbrev pub node_step : Node-F Fo It Lo AttributeTree Ats BranchTree Brs El Ex Exs FieldTree Fds Its LiteralTree Los
+    NamedTree Nms NodeTree Xs
+    → NodeTree
 node_step n = (con_tree n.fills, n.term)
 
-abbrev pub nodes_step : Nodes-F Fo It Lo AttributeTree Ats BranchTree Brs El Ex Exs FieldTree Fds Its LiteralTree Los NamedTree Nms NodeTree Xs → Xs
+abbrev pub nodes_step : Nodes-F Fo It Lo AttributeTree Ats BranchTree Brs El Ex Exs FieldTree Fds Its LiteralTree
+    Los NamedTree Nms NodeTree Xs
+    → Xs
 nodes_step ns = nodes_from ns.items.items
 
-abbrev pub locals_step : Locals-F Fo It Lo AttributeTree Ats BranchTree Brs El Ex Exs FieldTree Fds Its LiteralTree Los NamedTree Nms NodeTree Xs → Los
+abbrev pub locals_step : Locals-F Fo It Lo AttributeTree Ats BranchTree Brs El Ex Exs FieldTree Fds Its LiteralTree
+    Los NamedTree Nms NodeTree Xs
+    → Los
 locals_step ls = locals_from ls.items.items
 
-abbrev pub named_step : Named-F Fo It Lo AttributeTree Ats BranchTree Brs El Ex Exs FieldTree Fds Its LiteralTree Los NamedTree Nms NodeTree Xs → NamedTree
+abbrev pub named_step : Named-F Fo It Lo AttributeTree Ats BranchTree Brs El Ex Exs FieldTree Fds Its LiteralTree
+    Los NamedTree Nms NodeTree Xs
+    → NamedTree
 named_step n = (n.place, n.name.number, n.written, con_tree n.con, n.exp)
 
-abbrev pub named_list_step : NamedList-F Fo It Lo AttributeTree Ats BranchTree Brs El Ex Exs FieldTree Fds Its LiteralTree Los NamedTree Nms NodeTree Xs → Nms
+abbrev pub named_list_step : NamedList-F Fo It Lo AttributeTree Ats BranchTree Brs El Ex Exs FieldTree Fds Its
+    LiteralTree Los NamedTree Nms NodeTree Xs
+    → Nms
 named_list_step ns = named_from ns.items.items
 
 abbrev pub exp_tree : Exp → Ex
-exp_tree = fold-Exp Fo It Lo AttributeTree Ats BranchTree Brs El Ex Exs FieldTree Fds Its LiteralTree Los NamedTree Nms NodeTree Xs form_step item_step local_step attribute_step attributes_step branch_step branches_step element_step exp_step exps_step field_step fields_step items_step literal_step locals_step named_step named_list_step node_step nodes_step
+exp_tree = fold-Exp Fo It Lo AttributeTree Ats BranchTree Brs El Ex Exs FieldTree Fds Its LiteralTree Los NamedTree
+    Nms NodeTree Xs form_step item_step local_step attribute_step attributes_step branch_step branches_step
+    element_step exp_step exps_step field_step fields_step items_step literal_step locals_step named_step
+    named_list_step node_step nodes_step
 
 abbrev pub form_tree : Form → Fo
-form_tree = fold-Form Fo It Lo AttributeTree Ats BranchTree Brs El Ex Exs FieldTree Fds Its LiteralTree Los NamedTree Nms NodeTree Xs form_step item_step local_step attribute_step attributes_step branch_step branches_step element_step exp_step exps_step field_step fields_step items_step literal_step locals_step named_step named_list_step node_step nodes_step
+form_tree = fold-Form Fo It Lo AttributeTree Ats BranchTree Brs El Ex Exs FieldTree Fds Its LiteralTree Los
+    NamedTree Nms NodeTree Xs form_step item_step local_step attribute_step attributes_step branch_step
+    branches_step element_step exp_step exps_step field_step fields_step items_step literal_step locals_step
+    named_step named_list_step node_step nodes_step
 
 abbrev pub items_tree : Items → Its
-items_tree = fold-Items Fo It Lo AttributeTree Ats BranchTree Brs El Ex Exs FieldTree Fds Its LiteralTree Los NamedTree Nms NodeTree Xs form_step item_step local_step attribute_step attributes_step branch_step branches_step element_step exp_step exps_step field_step fields_step items_step literal_step locals_step named_step named_list_step node_step nodes_step
+items_tree = fold-Items Fo It Lo AttributeTree Ats BranchTree Brs El Ex Exs FieldTree Fds Its LiteralTree Los
+    NamedTree Nms NodeTree Xs form_step item_step local_step attribute_step attributes_step branch_step
+    branches_step element_step exp_step exps_step field_step fields_step items_step literal_step locals_step
+    named_step named_list_step node_step nodes_step
 
 abbrev pub branches_tree : Branches → Brs
-branches_tree = fold-Branches Fo It Lo AttributeTree Ats BranchTree Brs El Ex Exs FieldTree Fds Its LiteralTree Los NamedTree Nms NodeTree Xs form_step item_step local_step attribute_step attributes_step branch_step branches_step element_step exp_step exps_step field_step fields_step items_step literal_step locals_step named_step named_list_step node_step nodes_step
+branches_tree = fold-Branches Fo It Lo AttributeTree Ats BranchTree Brs El Ex Exs FieldTree Fds Its LiteralTree Los
+    NamedTree Nms NodeTree Xs form_step item_step local_step attribute_step attributes_step branch_step
+    branches_step element_step exp_step exps_step field_step fields_step items_step literal_step locals_step
+    named_step named_list_step node_step nodes_step
 
 abbrev pub fields_tree : Fields → Fds
-fields_tree = fold-Fields Fo It Lo AttributeTree Ats BranchTree Brs El Ex Exs FieldTree Fds Its LiteralTree Los NamedTree Nms NodeTree Xs form_step item_step local_step attribute_step attributes_step branch_step branches_step element_step exp_step exps_step field_step fields_step items_step literal_step locals_step named_step named_list_step node_step nodes_step
+fields_tree = fold-Fields Fo It Lo AttributeTree Ats BranchTree Brs El Ex Exs FieldTree Fds Its LiteralTree Los
+    NamedTree Nms NodeTree Xs form_step item_step local_step attribute_step attributes_step branch_step
+    branches_step element_step exp_step exps_step field_step fields_step items_step literal_step locals_step
+    named_step named_list_step node_step nodes_step
 
 abbrev pub locals_tree : Locals → Los
-locals_tree = fold-Locals Fo It Lo AttributeTree Ats BranchTree Brs El Ex Exs FieldTree Fds Its LiteralTree Los NamedTree Nms NodeTree Xs form_step item_step local_step attribute_step attributes_step branch_step branches_step element_step exp_step exps_step field_step fields_step items_step literal_step locals_step named_step named_list_step node_step nodes_step
+locals_tree = fold-Locals Fo It Lo AttributeTree Ats BranchTree Brs El Ex Exs FieldTree Fds Its LiteralTree Los
+    NamedTree Nms NodeTree Xs form_step item_step local_step attribute_step attributes_step branch_step
+    branches_step element_step exp_step exps_step field_step fields_step items_step literal_step locals_step
+    named_step named_list_step node_step nodes_step
 
 abbrev pub named_tree : Named → NamedTree
-named_tree = fold-Named Fo It Lo AttributeTree Ats BranchTree Brs El Ex Exs FieldTree Fds Its LiteralTree Los NamedTree Nms NodeTree Xs form_step item_step local_step attribute_step attributes_step branch_step branches_step element_step exp_step exps_step field_step fields_step items_step literal_step locals_step named_step named_list_step node_step nodes_step
+named_tree = fold-Named Fo It Lo AttributeTree Ats BranchTree Brs El Ex Exs FieldTree Fds Its LiteralTree Los
+    NamedTree Nms NodeTree Xs form_step item_step local_step attribute_step attributes_step branch_step
+    branches_step element_step exp_step exps_step field_step fields_step items_step literal_step locals_step
+    named_step named_list_step node_step nodes_step
 
 abbrev pub named_list_tree : NamedList → Nms
-named_list_tree = fold-NamedList Fo It Lo AttributeTree Ats BranchTree Brs El Ex Exs FieldTree Fds Its LiteralTree Los NamedTree Nms NodeTree Xs form_step item_step local_step attribute_step attributes_step branch_step branches_step element_step exp_step exps_step field_step fields_step items_step literal_step locals_step named_step named_list_step node_step nodes_step
+named_list_tree = fold-NamedList Fo It Lo AttributeTree Ats BranchTree Brs El Ex Exs FieldTree Fds Its LiteralTree
+    Los NamedTree Nms NodeTree Xs form_step item_step local_step attribute_step attributes_step branch_step
+    branches_step element_step exp_step exps_step field_step fields_step items_step literal_step locals_step
+    named_step named_list_step node_step nodes_step
 
 abbrev pub attributes_tree : Attributes → Ats
-attributes_tree = fold-Attributes Fo It Lo AttributeTree Ats BranchTree Brs El Ex Exs FieldTree Fds Its LiteralTree Los NamedTree Nms NodeTree Xs form_step item_step local_step attribute_step attributes_step branch_step branches_step element_step exp_step exps_step field_step fields_step items_step literal_step locals_step named_step named_list_step node_step nodes_step
+attributes_tree = fold-Attributes Fo It Lo AttributeTree Ats BranchTree Brs El Ex Exs FieldTree Fds Its LiteralTree
+    Los NamedTree Nms NodeTree Xs form_step item_step local_step attribute_step attributes_step branch_step
+    branches_step element_step exp_step exps_step field_step fields_step items_step literal_step locals_step
+    named_step named_list_step node_step nodes_step
 
 abbrev pub nodes_tree : Nodes → Xs
-nodes_tree = fold-Nodes Fo It Lo AttributeTree Ats BranchTree Brs El Ex Exs FieldTree Fds Its LiteralTree Los NamedTree Nms NodeTree Xs form_step item_step local_step attribute_step attributes_step branch_step branches_step element_step exp_step exps_step field_step fields_step items_step literal_step locals_step named_step named_list_step node_step nodes_step
+nodes_tree = fold-Nodes Fo It Lo AttributeTree Ats BranchTree Brs El Ex Exs FieldTree Fds Its LiteralTree Los
+    NamedTree Nms NodeTree Xs form_step item_step local_step attribute_step attributes_step branch_step
+    branches_step element_step exp_step exps_step field_step fields_step items_step literal_step locals_step
+    named_step named_list_step node_step nodes_step
 
 abbrev pub exps_tree : Exps → Exs
-exps_tree = fold-Exps Fo It Lo AttributeTree Ats BranchTree Brs El Ex Exs FieldTree Fds Its LiteralTree Los NamedTree Nms NodeTree Xs form_step item_step local_step attribute_step attributes_step branch_step branches_step element_step exp_step exps_step field_step fields_step items_step literal_step locals_step named_step named_list_step node_step nodes_step
+exps_tree = fold-Exps Fo It Lo AttributeTree Ats BranchTree Brs El Ex Exs FieldTree Fds Its LiteralTree Los
+    NamedTree Nms NodeTree Xs form_step item_step local_step attribute_step attributes_step branch_step
+    branches_step element_step exp_step exps_step field_step fields_step items_step literal_step locals_step
+    named_step named_list_step node_step nodes_step
 
 -- declarations and programs
 abbrev pub constructor_view : Constructor → Cd
@@ -300,7 +371,8 @@ named_decl path n = val path n.0 n.1 n.2 n.3 n.4
 abbrev pub decl_tree : Decl → De
 decl_tree (decl.Val path n) = named_decl (symbols_view path) (named_tree n)
 decl_tree (decl.ValRec path ns) = vals (symbols_view path) (named_list_tree ns)
-decl_tree (decl.Con c) = con_is (symbols_view c.path) c.place c.name.number c.written (kind_tree c.kind) (con_tree c.con)
+decl_tree (decl.Con c) = con_is (symbols_view c.path) c.place c.name.number c.written (kind_tree c.kind) (con_tree
+    c.con)
 decl_tree (decl.Datatype d) = datatype (datatype_view d)
 decl_tree (decl.Thing t) = thing (symbols_view t.path) t.place t.name.number (sort_tree t.sort) (con_tree t.con)
 

@@ -344,7 +344,7 @@ impl PatFields {
 #[cfg(test)]
 mod tests {
     use super::*;
-    use crate::exp::Form;
+    use crate::exp::{Form, Sigil};
     use con_terms::place::Place;
 
     fn number(at: u32) -> Exp {
@@ -353,6 +353,29 @@ mod tests {
             added: false,
             form: Form::Int(7),
         }
+    }
+
+    /// A call in a call, so many times: as deep as terms are built.
+    fn nested(rt: HostRuntime, levels: u32) -> Result<Exp, AllocError> {
+        let mut term = number(0);
+        for _ in 0..levels {
+            let mut items = Items::new(rt.alloc());
+            items.push(Item::Term(term))?;
+            let head = Box::new(rt.alloc(), number(1))?;
+            term = Exp {
+                place: Place { file: 0, at: 1 },
+                added: false,
+                form: Form::Call(head, Sigil::Plain, items),
+            };
+        }
+        Ok(term)
+    }
+
+    #[test]
+    fn the_deepest_terms_are_let_go(rt: HostRuntime) -> Result<(), AllocError> {
+        let term = nested(rt, 1200)?;
+        assert_eq!(rt; term.place.at, 1);
+        Ok(())
     }
 
     #[test]

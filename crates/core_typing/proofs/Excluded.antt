@@ -187,6 +187,7 @@ linked_out (own.action_calls_none none) h a (as_action c i s) = none (is_call c)
 linked_out (own.link_lacks c g none m) h a l = none (alike_found g h a)
 linked_out (own.action_has_all c g none m d) h a l = none (alike_found g h a)
 linked_out (own.action_lacks c g none m n) h a l = none (alike_found g h a)
+linked_out (own.cannot_travel c g none m x) h a l = none (alike_found g h a)
 linked_out (own.not_carried c g b none) h a l = none l
 
 pub second_there : {n : AttrName} {as' : Ats} {f : Fault} → SecondAt n as' f → HasAttribute as' n

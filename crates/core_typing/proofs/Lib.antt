@@ -39,3 +39,4 @@ pub mod KindsKept
 pub mod Containing
 pub mod OneShape
 pub mod OneSite
+pub mod SeenBefore

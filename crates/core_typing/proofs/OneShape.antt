@@ -1,12 +1,8 @@
 -- The routes of an accepted program are one: a type has one shape, and a value one entry by each method.
-use Rattle.std.proofs.Common.{◌≡◌, ◌≢◌, ℕ, suc, ◌-◌, ◌<◌, Bool, true, false, List, [], ◌∷◌, ◌++◌, map, Option, Some, None, slice_get, refl, ap, sym, subst, ◌∙◌, arith}
-use Rattle.std.specs.List.{Contains}
-use Rattle.con_terms.specs.Trees.{Cn, var, arrow, record_of}
-use Rattle.table_rows.specs.Shapes.{Sh, an_int, a_text, a_unit, a_truth, a_record, a_data, parameter, Shs, no_shapes, shape, Cases}
-use Rattle.link_router.specs.Calls.{Ent, Rts}
-use Rattle.core_terms.specs.Names.{bool_name}
-use Rattle.core_terms.specs.Trees.{Cd, Dt, arity, Pg}
-use Rattle.core_terms.specs.Types.{transaction_of, page_type}
+use Rattle.std.proofs.Common.{◌≡◌, ℕ, suc, ◌-◌, List, [], ◌∷◌, Option, Some, slice_get, refl, ap, sym, ◌∙◌, arith}
+use Rattle.con_terms.specs.Trees.{Cn, var, record_of}
+use Rattle.table_rows.specs.Shapes.{Sh, an_int, a_text, a_unit, a_truth, a_record, a_data, parameter, Shs, shape, Cases}
+use Rattle.core_terms.specs.Trees.{Cd, Dt}
 use Rattle.core_typing.specs.Scopes.{normal_of}
 use Rattle.core_typing.specs.Seen.{Seen, a_number, a_datatype, nothing_more, literal_fields, seen}
 use Rattle.core_typing.specs.Seen as seen
@@ -59,6 +55,7 @@ same_data ds {d = d} {b = b} {args = args} {more = more} q h g e f =
   where
     first : {d b : Dt} {xs ys : List Cn} → a_datatype d xs ≡ a_datatype b ys → d ≡ b
     first z = cc
+
     second : {d b : Dt} {xs ys : List Cn} → a_datatype d xs ≡ a_datatype b ys → xs ≡ ys
     second z = cc
 
@@ -83,58 +80,58 @@ same_text names {n = n} {m = m} e h g = let both : Some n ≡ Some m = sym h ∙
 mutual
   -- a type has one shape
   pub one_shape : {names : List (List ℕ)} {ds : List Dt} {k : ℕ} {t u : Cn} {s r : Sh} → OnePlace ds → Shaped names ds k t s → Shaped names ds k u r → t ≡ u → s ≡ r
-  one_shape o (of_int h e) (of_int g f) q = refl
-  one_shape o (of_int h e) (of_text g f) q = let z : ◌≡◌ {A = ℕ} 0 1 = one_class q h (of_int h e) (of_text g f) in absurd (omega (arith, z))
-  one_shape o (of_int h e) (of_truth g f c) q = let z : ◌≡◌ {A = ℕ} 0 2 = one_class q h (of_int h e) (of_truth g f c) in absurd (omega (arith, z))
-  one_shape o (of_int h e) (of_datatype g f c j bs) q = let z : ◌≡◌ {A = ℕ} 0 2 = one_class q h (of_int h e) (of_datatype g f c j bs) in absurd (omega (arith, z))
-  one_shape o (of_int h e) (of_nothing g f) q = let z : ◌≡◌ {A = ℕ} 0 3 = one_class q h (of_int h e) (of_nothing g f) in absurd (omega (arith, z))
-  one_shape o (of_int h e) (of_fields g f gs) q = let z : ◌≡◌ {A = ℕ} 0 3 = one_class q h (of_int h e) (of_fields g f gs) in absurd (omega (arith, z))
-  one_shape o (of_int h e) (of_parameter g j) q = let z : ◌≡◌ {A = ℕ} 0 4 = one_class q h (of_int h e) (of_parameter g j) in absurd (omega (arith, z))
-  one_shape o (of_text h e) (of_int g f) q = let z : ◌≡◌ {A = ℕ} 1 0 = one_class q h (of_text h e) (of_int g f) in absurd (omega (arith, z))
-  one_shape o (of_text h e) (of_text g f) q = refl
-  one_shape o (of_text h e) (of_truth g f c) q = let z : ◌≡◌ {A = ℕ} 1 2 = one_class q h (of_text h e) (of_truth g f c) in absurd (omega (arith, z))
-  one_shape o (of_text h e) (of_datatype g f c j bs) q = let z : ◌≡◌ {A = ℕ} 1 2 = one_class q h (of_text h e) (of_datatype g f c j bs) in absurd (omega (arith, z))
-  one_shape o (of_text h e) (of_nothing g f) q = let z : ◌≡◌ {A = ℕ} 1 3 = one_class q h (of_text h e) (of_nothing g f) in absurd (omega (arith, z))
-  one_shape o (of_text h e) (of_fields g f gs) q = let z : ◌≡◌ {A = ℕ} 1 3 = one_class q h (of_text h e) (of_fields g f gs) in absurd (omega (arith, z))
-  one_shape o (of_text h e) (of_parameter g j) q = let z : ◌≡◌ {A = ℕ} 1 4 = one_class q h (of_text h e) (of_parameter g j) in absurd (omega (arith, z))
-  one_shape o (of_truth h e b) (of_int g f) q = let z : ◌≡◌ {A = ℕ} 2 0 = one_class q h (of_truth h e b) (of_int g f) in absurd (omega (arith, z))
-  one_shape o (of_truth h e b) (of_text g f) q = let z : ◌≡◌ {A = ℕ} 2 1 = one_class q h (of_truth h e b) (of_text g f) in absurd (omega (arith, z))
-  one_shape o (of_truth h e b) (of_truth g f c) q = refl
-  one_shape {ds = ds} o (of_truth h e b) (of_datatype g f c j bs) q = absurd (c (ap (λ (d : Dt). d.symbol) (sym (same_data ds q h g e f).0) ∙ b))
-  one_shape o (of_truth h e b) (of_nothing g f) q = let z : ◌≡◌ {A = ℕ} 2 3 = one_class q h (of_truth h e b) (of_nothing g f) in absurd (omega (arith, z))
-  one_shape o (of_truth h e b) (of_fields g f gs) q = let z : ◌≡◌ {A = ℕ} 2 3 = one_class q h (of_truth h e b) (of_fields g f gs) in absurd (omega (arith, z))
-  one_shape o (of_truth h e b) (of_parameter g j) q = let z : ◌≡◌ {A = ℕ} 2 4 = one_class q h (of_truth h e b) (of_parameter g j) in absurd (omega (arith, z))
-  one_shape o (of_datatype h e b i as') (of_int g f) q = let z : ◌≡◌ {A = ℕ} 2 0 = one_class q h (of_datatype h e b i as') (of_int g f) in absurd (omega (arith, z))
-  one_shape o (of_datatype h e b i as') (of_text g f) q = let z : ◌≡◌ {A = ℕ} 2 1 = one_class q h (of_datatype h e b i as') (of_text g f) in absurd (omega (arith, z))
-  one_shape {ds = ds} o (of_datatype h e b i as') (of_truth g f c) q = absurd (b (ap (λ (d : Dt). d.symbol) (same_data ds q h g e f).0 ∙ c))
+  one_shape {names} {ds} {k} o (of_int h e) (of_int g f) q = refl
+  one_shape {names} {ds} {k} o (of_int h e) (of_text g f) q = let z : ◌≡◌ {A = ℕ} 0 1 = one_class {names = names} {ds = ds} {k = k} q h (of_int h e) (of_text g f) in absurd (omega (arith, z))
+  one_shape {names} {ds} {k} o (of_int h e) (of_truth g f c) q = let z : ◌≡◌ {A = ℕ} 0 2 = one_class {names = names} {ds = ds} {k = k} q h (of_int h e) (of_truth g f c) in absurd (omega (arith, z))
+  one_shape {names} {ds} {k} o (of_int h e) (of_datatype g f c j bs) q = let z : ◌≡◌ {A = ℕ} 0 2 = one_class {names = names} {ds = ds} {k = k} q h (of_int h e) (of_datatype g f c j bs) in absurd (omega (arith, z))
+  one_shape {names} {ds} {k} o (of_int h e) (of_nothing g f) q = let z : ◌≡◌ {A = ℕ} 0 3 = one_class {names = names} {ds = ds} {k = k} q h (of_int h e) (of_nothing g f) in absurd (omega (arith, z))
+  one_shape {names} {ds} {k} o (of_int h e) (of_fields g f gs) q = let z : ◌≡◌ {A = ℕ} 0 3 = one_class {names = names} {ds = ds} {k = k} q h (of_int h e) (of_fields g f gs) in absurd (omega (arith, z))
+  one_shape {names} {ds} {k} o (of_int h e) (of_parameter g j) q = let z : ◌≡◌ {A = ℕ} 0 4 = one_class {names = names} {ds = ds} {k = k} q h (of_int h e) (of_parameter g j) in absurd (omega (arith, z))
+  one_shape {names} {ds} {k} o (of_text h e) (of_int g f) q = let z : ◌≡◌ {A = ℕ} 1 0 = one_class {names = names} {ds = ds} {k = k} q h (of_text h e) (of_int g f) in absurd (omega (arith, z))
+  one_shape {names} {ds} {k} o (of_text h e) (of_text g f) q = refl
+  one_shape {names} {ds} {k} o (of_text h e) (of_truth g f c) q = let z : ◌≡◌ {A = ℕ} 1 2 = one_class {names = names} {ds = ds} {k = k} q h (of_text h e) (of_truth g f c) in absurd (omega (arith, z))
+  one_shape {names} {ds} {k} o (of_text h e) (of_datatype g f c j bs) q = let z : ◌≡◌ {A = ℕ} 1 2 = one_class {names = names} {ds = ds} {k = k} q h (of_text h e) (of_datatype g f c j bs) in absurd (omega (arith, z))
+  one_shape {names} {ds} {k} o (of_text h e) (of_nothing g f) q = let z : ◌≡◌ {A = ℕ} 1 3 = one_class {names = names} {ds = ds} {k = k} q h (of_text h e) (of_nothing g f) in absurd (omega (arith, z))
+  one_shape {names} {ds} {k} o (of_text h e) (of_fields g f gs) q = let z : ◌≡◌ {A = ℕ} 1 3 = one_class {names = names} {ds = ds} {k = k} q h (of_text h e) (of_fields g f gs) in absurd (omega (arith, z))
+  one_shape {names} {ds} {k} o (of_text h e) (of_parameter g j) q = let z : ◌≡◌ {A = ℕ} 1 4 = one_class {names = names} {ds = ds} {k = k} q h (of_text h e) (of_parameter g j) in absurd (omega (arith, z))
+  one_shape {names} {ds} {k} o (of_truth h e b) (of_int g f) q = let z : ◌≡◌ {A = ℕ} 2 0 = one_class {names = names} {ds = ds} {k = k} q h (of_truth h e b) (of_int g f) in absurd (omega (arith, z))
+  one_shape {names} {ds} {k} o (of_truth h e b) (of_text g f) q = let z : ◌≡◌ {A = ℕ} 2 1 = one_class {names = names} {ds = ds} {k = k} q h (of_truth h e b) (of_text g f) in absurd (omega (arith, z))
+  one_shape {names} {ds} {k} o (of_truth h e b) (of_truth g f c) q = refl
+  one_shape {names} {ds} {k} o (of_truth h e b) (of_datatype g f c j bs) q = absurd (c (ap (λ (d : Dt). d.symbol) (sym (same_data ds q h g e f).0) ∙ b))
+  one_shape {names} {ds} {k} o (of_truth h e b) (of_nothing g f) q = let z : ◌≡◌ {A = ℕ} 2 3 = one_class {names = names} {ds = ds} {k = k} q h (of_truth h e b) (of_nothing g f) in absurd (omega (arith, z))
+  one_shape {names} {ds} {k} o (of_truth h e b) (of_fields g f gs) q = let z : ◌≡◌ {A = ℕ} 2 3 = one_class {names = names} {ds = ds} {k = k} q h (of_truth h e b) (of_fields g f gs) in absurd (omega (arith, z))
+  one_shape {names} {ds} {k} o (of_truth h e b) (of_parameter g j) q = let z : ◌≡◌ {A = ℕ} 2 4 = one_class {names = names} {ds = ds} {k = k} q h (of_truth h e b) (of_parameter g j) in absurd (omega (arith, z))
+  one_shape {names} {ds} {k} o (of_datatype h e b i as') (of_int g f) q = let z : ◌≡◌ {A = ℕ} 2 0 = one_class {names = names} {ds = ds} {k = k} q h (of_datatype h e b i as') (of_int g f) in absurd (omega (arith, z))
+  one_shape {names} {ds} {k} o (of_datatype h e b i as') (of_text g f) q = let z : ◌≡◌ {A = ℕ} 2 1 = one_class {names = names} {ds = ds} {k = k} q h (of_datatype h e b i as') (of_text g f) in absurd (omega (arith, z))
+  one_shape {names} {ds} {k} o (of_datatype h e b i as') (of_truth g f c) q = absurd (b (ap (λ (d : Dt). d.symbol) (same_data ds q h g e f).0 ∙ c))
   one_shape {names} {ds} {k} o (of_datatype {i = i} {d = d} {ss = ss} h e b at as') (of_datatype {i = j} {ss = rs} g f c there bs) q =
       let (same, args) = same_data ds q h g e f in
       let place : i ≡ j = o i j d at (there ∙ ap (λ x. Some x) (sym same)) in
       ap (λ n. a_data n ss) place ∙ ap (a_data j) (all_one_shape o as' bs args)
-  one_shape o (of_datatype h e b i as') (of_nothing g f) q = let z : ◌≡◌ {A = ℕ} 2 3 = one_class q h (of_datatype h e b i as') (of_nothing g f) in absurd (omega (arith, z))
-  one_shape o (of_datatype h e b i as') (of_fields g f gs) q = let z : ◌≡◌ {A = ℕ} 2 3 = one_class q h (of_datatype h e b i as') (of_fields g f gs) in absurd (omega (arith, z))
-  one_shape o (of_datatype h e b i as') (of_parameter g j) q = let z : ◌≡◌ {A = ℕ} 2 4 = one_class q h (of_datatype h e b i as') (of_parameter g j) in absurd (omega (arith, z))
-  one_shape o (of_nothing h e) (of_int g f) q = let z : ◌≡◌ {A = ℕ} 3 0 = one_class q h (of_nothing h e) (of_int g f) in absurd (omega (arith, z))
-  one_shape o (of_nothing h e) (of_text g f) q = let z : ◌≡◌ {A = ℕ} 3 1 = one_class q h (of_nothing h e) (of_text g f) in absurd (omega (arith, z))
-  one_shape o (of_nothing h e) (of_truth g f c) q = let z : ◌≡◌ {A = ℕ} 3 2 = one_class q h (of_nothing h e) (of_truth g f c) in absurd (omega (arith, z))
-  one_shape o (of_nothing h e) (of_datatype g f c j bs) q = let z : ◌≡◌ {A = ℕ} 3 2 = one_class q h (of_nothing h e) (of_datatype g f c j bs) in absurd (omega (arith, z))
-  one_shape o (of_nothing h e) (of_nothing g f) q = refl
-  one_shape o (of_nothing h e) (of_fields g f gs) q = no_fields_there (sym e ∙ ap literal_fields (same_row q h g) ∙ f)
-  one_shape o (of_nothing h e) (of_parameter g j) q = let z : ◌≡◌ {A = ℕ} 3 4 = one_class q h (of_nothing h e) (of_parameter g j) in absurd (omega (arith, z))
-  one_shape o (of_fields h e fs) (of_int g f) q = let z : ◌≡◌ {A = ℕ} 3 0 = one_class q h (of_fields h e fs) (of_int g f) in absurd (omega (arith, z))
-  one_shape o (of_fields h e fs) (of_text g f) q = let z : ◌≡◌ {A = ℕ} 3 1 = one_class q h (of_fields h e fs) (of_text g f) in absurd (omega (arith, z))
-  one_shape o (of_fields h e fs) (of_truth g f c) q = let z : ◌≡◌ {A = ℕ} 3 2 = one_class q h (of_fields h e fs) (of_truth g f c) in absurd (omega (arith, z))
-  one_shape o (of_fields h e fs) (of_datatype g f c j bs) q = let z : ◌≡◌ {A = ℕ} 3 2 = one_class q h (of_fields h e fs) (of_datatype g f c j bs) in absurd (omega (arith, z))
-  one_shape o (of_fields h e fs) (of_nothing g f) q = no_fields_there (sym f ∙ ap literal_fields (sym (same_row q h g)) ∙ e)
-  one_shape o (of_fields h e fs) (of_fields g f gs) q = ap (λ ps. a_record (parts_of ps)) (fields_one_shape o fs gs (sym e ∙ ap literal_fields (same_row q h g) ∙ f))
-  one_shape o (of_fields h e fs) (of_parameter g j) q = let z : ◌≡◌ {A = ℕ} 3 4 = one_class q h (of_fields h e fs) (of_parameter g j) in absurd (omega (arith, z))
-  one_shape o (of_parameter h i) (of_int g f) q = let z : ◌≡◌ {A = ℕ} 4 0 = one_class q h (of_parameter h i) (of_int g f) in absurd (omega (arith, z))
-  one_shape o (of_parameter h i) (of_text g f) q = let z : ◌≡◌ {A = ℕ} 4 1 = one_class q h (of_parameter h i) (of_text g f) in absurd (omega (arith, z))
-  one_shape o (of_parameter h i) (of_truth g f c) q = let z : ◌≡◌ {A = ℕ} 4 2 = one_class q h (of_parameter h i) (of_truth g f c) in absurd (omega (arith, z))
-  one_shape o (of_parameter h i) (of_datatype g f c j bs) q = let z : ◌≡◌ {A = ℕ} 4 2 = one_class q h (of_parameter h i) (of_datatype g f c j bs) in absurd (omega (arith, z))
-  one_shape o (of_parameter h i) (of_nothing g f) q = let z : ◌≡◌ {A = ℕ} 4 3 = one_class q h (of_parameter h i) (of_nothing g f) in absurd (omega (arith, z))
-  one_shape o (of_parameter h i) (of_fields g f gs) q = let z : ◌≡◌ {A = ℕ} 4 3 = one_class q h (of_parameter h i) (of_fields g f gs) in absurd (omega (arith, z))
-  one_shape {k = k} o (of_parameter h i) (of_parameter g j) q = ap (λ n. parameter (k - suc n)) (same_variable q h g)
+  one_shape {names} {ds} {k} o (of_datatype h e b i as') (of_nothing g f) q = let z : ◌≡◌ {A = ℕ} 2 3 = one_class {names = names} {ds = ds} {k = k} q h (of_datatype h e b i as') (of_nothing g f) in absurd (omega (arith, z))
+  one_shape {names} {ds} {k} o (of_datatype h e b i as') (of_fields g f gs) q = let z : ◌≡◌ {A = ℕ} 2 3 = one_class {names = names} {ds = ds} {k = k} q h (of_datatype h e b i as') (of_fields g f gs) in absurd (omega (arith, z))
+  one_shape {names} {ds} {k} o (of_datatype h e b i as') (of_parameter g j) q = let z : ◌≡◌ {A = ℕ} 2 4 = one_class {names = names} {ds = ds} {k = k} q h (of_datatype h e b i as') (of_parameter g j) in absurd (omega (arith, z))
+  one_shape {names} {ds} {k} o (of_nothing h e) (of_int g f) q = let z : ◌≡◌ {A = ℕ} 3 0 = one_class {names = names} {ds = ds} {k = k} q h (of_nothing h e) (of_int g f) in absurd (omega (arith, z))
+  one_shape {names} {ds} {k} o (of_nothing h e) (of_text g f) q = let z : ◌≡◌ {A = ℕ} 3 1 = one_class {names = names} {ds = ds} {k = k} q h (of_nothing h e) (of_text g f) in absurd (omega (arith, z))
+  one_shape {names} {ds} {k} o (of_nothing h e) (of_truth g f c) q = let z : ◌≡◌ {A = ℕ} 3 2 = one_class {names = names} {ds = ds} {k = k} q h (of_nothing h e) (of_truth g f c) in absurd (omega (arith, z))
+  one_shape {names} {ds} {k} o (of_nothing h e) (of_datatype g f c j bs) q = let z : ◌≡◌ {A = ℕ} 3 2 = one_class {names = names} {ds = ds} {k = k} q h (of_nothing h e) (of_datatype g f c j bs) in absurd (omega (arith, z))
+  one_shape {names} {ds} {k} o (of_nothing h e) (of_nothing g f) q = refl
+  one_shape {names} {ds} {k} o (of_nothing h e) (of_fields g f gs) q = no_fields_there (sym e ∙ ap literal_fields (same_row q h g) ∙ f)
+  one_shape {names} {ds} {k} o (of_nothing h e) (of_parameter g j) q = let z : ◌≡◌ {A = ℕ} 3 4 = one_class {names = names} {ds = ds} {k = k} q h (of_nothing h e) (of_parameter g j) in absurd (omega (arith, z))
+  one_shape {names} {ds} {k} o (of_fields h e fs) (of_int g f) q = let z : ◌≡◌ {A = ℕ} 3 0 = one_class {names = names} {ds = ds} {k = k} q h (of_fields h e fs) (of_int g f) in absurd (omega (arith, z))
+  one_shape {names} {ds} {k} o (of_fields h e fs) (of_text g f) q = let z : ◌≡◌ {A = ℕ} 3 1 = one_class {names = names} {ds = ds} {k = k} q h (of_fields h e fs) (of_text g f) in absurd (omega (arith, z))
+  one_shape {names} {ds} {k} o (of_fields h e fs) (of_truth g f c) q = let z : ◌≡◌ {A = ℕ} 3 2 = one_class {names = names} {ds = ds} {k = k} q h (of_fields h e fs) (of_truth g f c) in absurd (omega (arith, z))
+  one_shape {names} {ds} {k} o (of_fields h e fs) (of_datatype g f c j bs) q = let z : ◌≡◌ {A = ℕ} 3 2 = one_class {names = names} {ds = ds} {k = k} q h (of_fields h e fs) (of_datatype g f c j bs) in absurd (omega (arith, z))
+  one_shape {names} {ds} {k} o (of_fields h e fs) (of_nothing g f) q = no_fields_there (sym f ∙ ap literal_fields (sym (same_row q h g)) ∙ e)
+  one_shape {names} {ds} {k} o (of_fields h e fs) (of_fields g f gs) q = ap (λ ps. a_record (parts_of ps)) (fields_one_shape o fs gs (sym e ∙ ap literal_fields (same_row q h g) ∙ f))
+  one_shape {names} {ds} {k} o (of_fields h e fs) (of_parameter g j) q = let z : ◌≡◌ {A = ℕ} 3 4 = one_class {names = names} {ds = ds} {k = k} q h (of_fields h e fs) (of_parameter g j) in absurd (omega (arith, z))
+  one_shape {names} {ds} {k} o (of_parameter h i) (of_int g f) q = let z : ◌≡◌ {A = ℕ} 4 0 = one_class {names = names} {ds = ds} {k = k} q h (of_parameter h i) (of_int g f) in absurd (omega (arith, z))
+  one_shape {names} {ds} {k} o (of_parameter h i) (of_text g f) q = let z : ◌≡◌ {A = ℕ} 4 1 = one_class {names = names} {ds = ds} {k = k} q h (of_parameter h i) (of_text g f) in absurd (omega (arith, z))
+  one_shape {names} {ds} {k} o (of_parameter h i) (of_truth g f c) q = let z : ◌≡◌ {A = ℕ} 4 2 = one_class {names = names} {ds = ds} {k = k} q h (of_parameter h i) (of_truth g f c) in absurd (omega (arith, z))
+  one_shape {names} {ds} {k} o (of_parameter h i) (of_datatype g f c j bs) q = let z : ◌≡◌ {A = ℕ} 4 2 = one_class {names = names} {ds = ds} {k = k} q h (of_parameter h i) (of_datatype g f c j bs) in absurd (omega (arith, z))
+  one_shape {names} {ds} {k} o (of_parameter h i) (of_nothing g f) q = let z : ◌≡◌ {A = ℕ} 4 3 = one_class {names = names} {ds = ds} {k = k} q h (of_parameter h i) (of_nothing g f) in absurd (omega (arith, z))
+  one_shape {names} {ds} {k} o (of_parameter h i) (of_fields g f gs) q = let z : ◌≡◌ {A = ℕ} 4 3 = one_class {names = names} {ds = ds} {k = k} q h (of_parameter h i) (of_fields g f gs) in absurd (omega (arith, z))
+  one_shape {names} {ds} {k} o (of_parameter h i) (of_parameter g j) q = ap (λ n. parameter (k - suc n)) (same_variable q h g)
 
   all_one_shape : {names : List (List ℕ)} {ds : List Dt} {k : ℕ} {ts us : List Cn} {ss rs : Shs} → OnePlace ds → AllShaped names ds k ts ss → AllShaped names ds k us rs → ts ≡ us → ss ≡ rs
   all_one_shape o none_shaped none_shaped q = refl
@@ -147,7 +144,7 @@ mutual
   fields_one_shape o no_field_shaped no_field_shaped q = refl
   fields_one_shape o no_field_shaped (field_shaped f b bs) q = no_fields_there q
   fields_one_shape o (field_shaped e a as') no_field_shaped q = no_fields_there (sym q)
-  fields_one_shape {names = names} o (field_shaped {s = s} {ps = ps} e a as') (field_shaped {name = n} {s = r} f b bs) q =
+  fields_one_shape {names} o (field_shaped {s = s} {ps = ps} e a as') (field_shaped {name = n} {s = r} f b bs) q =
       let text = same_text names (ap (λ (z : ℕ × Cn). z.0) (heads q)) e f in
       let one = one_shape o a b (ap (λ (z : ℕ × Cn). z.1) (heads q)) in
       ap (λ m. put_part m s ps) text ∙ ap (λ x. put_part n x ps) one ∙ ap (put_part n r) (fields_one_shape o as' bs (tails q))
@@ -158,7 +155,7 @@ held_one_shape o (holds_one a) (holds_one b) = ap (λ s. Some s) (one_shape o a 
 
 one_case_each : {names : List (List ℕ)} {ds : List Dt} {k : ℕ} {cs : List Cd} {xs ys : Cases} → OnePlace ds → CasesShaped names ds k cs xs → CasesShaped names ds k cs ys → xs ≡ ys
 one_case_each o no_case no_case = refl
-one_case_each {names = names} o (a_case {held = x} {rest = rest} e h r) (a_case {name = n} {held = y} f g t) =
+one_case_each {names} {xs = xs} {ys = ys} o (a_case {held = x} {rest = rest} e h r) (a_case {name = n} {held = y} f g t) =
     ap (λ m. (m, x) ∷ rest) (same_text names refl e f) ∙ ap (λ z. (n, z) ∷ rest) (held_one_shape o h g) ∙ ap (λ zs. (n, y) ∷ zs) (one_case_each o r t)
 
 pub one_shape_each : {names : List (List ℕ)} {all ds : List Dt} {xs ys : List Cases} → OnePlace all → DatatypesShaped names all ds xs → DatatypesShaped names all ds ys → xs ≡ ys

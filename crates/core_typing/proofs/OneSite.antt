@@ -1,18 +1,18 @@
 -- The entries and routes of an accepted program are one.
 use Rattle.std.proofs.Common.{◌≡◌, ℕ, zero, suc, Bool, true, false, List, [], ◌∷◌, ◌++◌, map, Option, Some, None, slice_get, refl, ap, sym, ◌∙◌}
-use Rattle.std.specs.Prelude.{Result, Ok, Err}
-use Rattle.con_terms.specs.Trees.{Kd, Cn, app, arrow}
-use Rattle.table_rows.specs.Shapes.{Sh, Shs, no_shapes, shape, Cases}
+use Rattle.std.specs.Prelude.{Ok}
+use Rattle.con_terms.specs.Trees.{Kd, Cn, arrow}
+use Rattle.table_rows.specs.Shapes.{Sh, Shs, shape, Cases}
 use Rattle.link_router.specs.Calls.{Ent, Rts}
 use Rattle.row_normal.specs.NormalForm.{nf}
 use Rattle.kind_rules.specs.Compared.{comparison_units, with_first, with_second}
-use Rattle.core_terms.specs.Trees.{Cd, Dt, Pg}
+use Rattle.core_terms.specs.Trees.{Dt, Pg}
 use Rattle.core_terms.specs.Types.{transaction_of, page_type}
 use Rattle.core_typing.specs.Scopes.{normal_of, basis_kinds, datatype_kinds, folder_kinds}
 use Rattle.core_typing.specs.Compared.{Alike}
 use Rattle.core_typing.specs.Declarations.{Value, values, Distinct}
 use Rattle.core_typing.specs.Entries.{all_datatypes, value_name, TakesToPage, no_argument, an_argument, TakesFormToPage, form_last, form_behind, IsEntry, by_export, by_link, by_action, EntriesFrom, no_values, neither, get_alone, post_alone, get_and_post, entries_of, RoutesOf}
-use Rattle.core_typing.specs.Accepts.{Accepts, Formed, type_symbols}
+use Rattle.core_typing.specs.Accepts.{Accepts, Formed}
 use Rattle.core_typing.proofs.OneShape.{OnePlace, one_shape, one_shape_each}
 use Rattle.core_typing.proofs.SiteRoutes.{distinct_places}
 
@@ -46,6 +46,7 @@ one_arrow {a = a} {b = b} {c = c} {d = d} q h g = let both : Some (arrow a b) �
   where
     left : {a b c d : Cn} → Some (arrow a b) ≡ Some (arrow c d) → a ≡ c
     left e = cc
+
     right : {a b c d : Cn} → Some (arrow a b) ≡ Some (arrow c d) → b ≡ d
     right e = cc
 
@@ -82,22 +83,22 @@ same_value : (p : Pg) (i : ℕ) {v w : Value} → slice_get (values p.decls) i �
 same_value p i h g = some_is (sym h ∙ g)
 
 get_one : (p : Pg) (i : ℕ) {v w : Value} {ss rs : Shs} → OnePlace (all_datatypes p) → slice_get (values p.decls) i ≡ Some v → slice_get (values p.decls) i ≡ Some w → TakesToPage p v.con ss → TakesToPage p w.con rs → entry_for p v ss None ≡ entry_for p w rs None
-get_one p i {v} {w} {ss} o h g a b =
+get_one p i {v = v} {w = w} {ss = ss} o h g a b =
     let same : v ≡ w = same_value p i h g in
     ap (λ (x : Value). entry_for p x ss None) same ∙ ap (λ xs. entry_for p w xs None) (takes_one o a b (ap (λ (x : Value). x.con) same))
 
 post_one : (p : Pg) (i : ℕ) {v w : Value} {ss rs : Shs} {f g : Sh} → OnePlace (all_datatypes p) → slice_get (values p.decls) i ≡ Some v → slice_get (values p.decls) i ≡ Some w → TakesFormToPage p v.con ss f → TakesFormToPage p w.con rs g → entry_for p v ss (Some f) ≡ entry_for p w rs (Some g)
-post_one p i {v} {w} {ss} {rs} {f} o h g a b =
+post_one p i {v = v} {w = w} {ss = ss} {rs = rs} {f = f} o h g a b =
     let same : v ≡ w = same_value p i h g in
     let (more, last) = form_one o a b (ap (λ (x : Value). x.con) same) in
     ap (λ (x : Value). entry_for p x ss (Some f)) same ∙ ap (λ xs. entry_for p w xs (Some f)) more ∙ ap (λ x. entry_for p w rs (Some x)) last
 
 entry_one : {p : Pg} {i : ℕ} {post : Bool} {e d : Ent} → OnePlace (all_datatypes p) → IsEntry p i post e → IsEntry p i post d → e ≡ d
-entry_one {p} {i} o (by_export h c a) (by_export g k b) = get_one p i o h g a b
-entry_one {p} {i} o (by_export h c a) (by_link g k b) = get_one p i o h g a b
-entry_one {p} {i} o (by_link h c a) (by_export g k b) = get_one p i o h g a b
-entry_one {p} {i} o (by_link h c a) (by_link g k b) = get_one p i o h g a b
-entry_one {p} {i} o (by_action h c a) (by_action g k b) = post_one p i o h g a b
+entry_one {p = p} {i = i} o (by_export h c a) (by_export g k b) = get_one p i o h g a b
+entry_one {p = p} {i = i} o (by_export h c a) (by_link g k b) = get_one p i o h g a b
+entry_one {p = p} {i = i} o (by_link h c a) (by_export g k b) = get_one p i o h g a b
+entry_one {p = p} {i = i} o (by_link h c a) (by_link g k b) = get_one p i o h g a b
+entry_one {p = p} {i = i} o (by_action h c a) (by_action g k b) = post_one p i o h g a b
 
 one_list : {p : Pg} {i : ℕ} {vs : List Value} {xs ys : List (ℕ × Ent)} → OnePlace (all_datatypes p) → EntriesFrom p i vs xs → EntriesFrom p i vs ys → xs ≡ ys
 one_list o no_values no_values = refl
@@ -144,8 +145,7 @@ same_routes r s d e =
 pub one_site : (p : Pg) (routes others : Rts) (callees numbers : List ℕ) → Accepts p → RoutesOf p routes callees → RoutesOf p others numbers → (routes ≡ others) × (callees ≡ numbers)
 one_site p routes others callees numbers a r s =
     let o = one_place p a.formed in
-    let listed : r.listed ≡ s.listed = one_list o r.are_entries s.are_entries in
-    (
+    let listed : r.listed ≡ s.listed = one_list o r.are_entries s.are_entries in (
       same_routes routes others (one_shape_each o r.datatypes s.datatypes) (r.entries ∙ ap entries_of listed ∙ sym s.entries),
       r.called ∙ ap (λ es. map (λ (e : ℕ × Ent). e.0) es) listed ∙ sym s.called,
     )

@@ -241,6 +241,7 @@ linked_differs (own.action_calls_none h) = tt
 linked_differs (own.link_lacks c e a n) = tt
 linked_differs (own.action_has_all c e a n h) = tt
 linked_differs (own.action_lacks c e a n m) = tt
+linked_differs (own.cannot_travel c e a m h) = tt
 linked_differs (own.not_carried c e a h) = tt
 
 attribute_differs : {G : Sc} {u : Cn} {g : TagName} {as' : Ats} {f : Fault} → AttributeFault G u g as' f → SidesDiffer f

@@ -94,3 +94,12 @@ pub data SendsForm : List Dt → ℕ → Cn → Type 0 where
       → Carried ds a
       → SendsForm ds n b
       → SendsForm ds (suc n) t
+
+-- a type takes so many carried arguments, and this is left of it
+pub data CarriesTo : List Dt → ℕ → Cn → Cn → Type 0 where
+  carries_none : {ds : List Dt} {t : Cn} → CarriesTo ds 0 t t
+  carries_one : {ds : List Dt} {n : ℕ} {t a b u : Cn}
+      → normal_of t ≡ Some (arrow a b)
+      → Carried ds a
+      → CarriesTo ds n b u
+      → CarriesTo ds (suc n) t u

@@ -65,10 +65,9 @@ TypingsSubstitute = WithoutCover (λ A. (G : Sc) (x : ℕ) (k : Kd) (c : Cn) (e 
     → Typed A (under_con x k G) e t
     → Typed A G (subst_in e c) (subst t c))
 
--- The type of a typed term has kind Type, where each type that another is exchanged for has it.
--- Without that it wouldn't: the relation of equality knows no kinds. And for a type that a proved guard is taken
--- off it would
--- ask that equal rows have pieces that are equal one by one, which isn't proved.
+-- The type of a typed term has kind Type, where each type that another is exchanged for has it. Without that it
+-- wouldn't: the relation of equality knows no kinds. And for a type that a proved guard is taken off it would ask
+-- that equal rows have pieces that are equal one by one, which isn't proved.
 abbrev pub TypesHaveKindType : Type 0
 TypesHaveKindType = (G : Sc) (e : Ex) (t : Cn) → HasTypes G → Typed kinds_asked G e t → Kinded G.kinds t types
 

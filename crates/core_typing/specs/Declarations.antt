@@ -1,15 +1,16 @@
 -- Declarations: the values that they make, and when they are typed.
 -- The Ur/Web Manual, "Declaration Typing".
-use Rattle.std.specs.Prelude.{◌≡◌, ◌≢◌, ℕ, length, Bool, List, [], ◌∷◌, ◌++◌, map, Some}
+use Rattle.std.specs.Prelude.{◌≡◌, ◌≢◌, ℕ, length, take, Bool, List, [], ◌∷◌, ◌++◌, map, Some}
 use Rattle.std.specs.List.{All, Contains}
 use Rattle.con_terms.specs.Trees.{Kd, types, Cn}
 use Rattle.con_terms.specs.Kinded.{Kinded}
 use Rattle.con_terms.specs.declared.place.Place.{Place}
-use Rattle.core_terms.specs.Trees.{Ex, Nms, no_named, named, Th, De, val, vals, con_is, datatype, thing, Cd, Dt, Pg}
+use Rattle.core_terms.specs.Trees.{Pt, Ex, Nms, no_named, named, Th, De, val, vals, con_is, datatype, thing, Cd, Dt, Pg}
 use Rattle.core_terms.specs.Datatypes.{basis_datatypes}
 use Rattle.core_typing.specs.Scopes.{Sc, top_scope, under_con}
 use Rattle.core_typing.specs.Asks.{Asks}
 use Rattle.core_typing.specs.Typed.{Typed, NamedTyped}
+use Rattle.core_typing.specs.Cover.{Covers}
 
 -- what a top-level value is: a term, or a thing without one
 pub data Body : Type 0 where
@@ -56,6 +57,17 @@ datatypes (thing path p x k t ∷ ds) = datatypes ds
 -- the scope at the top of a program where these values and datatypes were declared
 abbrev pub scope_with : Pg → List Cn → List Dt → Sc
 scope_with p tops ds = top_scope tops (basis_datatypes ++ ds) p.folders (length p.foreigns)
+
+-- what counts for a declaration, by its number: what is declared before it
+abbrev pub datatypes_before : ℕ → List De → List Dt
+datatypes_before n ds = basis_datatypes ++ datatypes (take n ds)
+
+abbrev pub scope_before : Pg → ℕ → Sc
+scope_before p n = scope_with p (value_types (values (take n p.decls))) (datatypes (take n p.decls))
+
+-- the patterns take every value of a type, where so many declarations count
+abbrev pub CoversBefore : List De → ℕ → List Pt → Cn → Type 0
+CoversBefore decls n ps t = Covers (datatypes_before n decls) ps t
 
 -- under a datatype's parameters, the first outermost
 abbrev pub under_types : List ℕ → Sc → Sc

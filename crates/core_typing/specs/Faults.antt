@@ -25,8 +25,7 @@ pub data Twice : Type 0 where
   twice_entry : List (List ℕ) → Twice
 
 -- A fault that keeps constructors keeps what the constructor variables in scope are called, the innermost first, so
--- that
--- it can be printed alone.
+-- that it can be printed alone.
 pub data Fault : Type 0 where
   unbound : Place → Unbound → Fault
   -- two kinds, two normal forms that differ: what was wanted, and what was found

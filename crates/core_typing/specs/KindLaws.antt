@@ -66,8 +66,8 @@ KindsSubstitute = (G : Scope) (l : Kd) (a c : Cn) (k : Kd)
 -- program.
 abbrev pub BasisHasKinds : Type 0
 BasisHasKinds = (G : Sc) → HasTypes G
-    → ((b : BasisName) → Kinded G.kinds (basis_type b) types) ×
-        ((t : TypeName) → Kinded G.kinds (named_type t) (named_kind t))
+    → ((b : BasisName) → Kinded G.kinds (basis_type b) types) × ((t : TypeName) → Kinded G.kinds (named_type t)
+    (named_kind t))
 
 -- A step keeps a constructor's kind.
 abbrev pub StepsKeepKinds : Type 0
@@ -77,11 +77,10 @@ StepsKeepKinds = (G : Scope) (c d : Cn) (k : Kd) → Kinded G c k → step c ≡
 abbrev pub EtaKeepsKinds : Type 0
 EtaKeepsKinds = (G : Scope) (c : Cn) (k : Kd) → Kinded G c k → Kinded G (contracted c) k
 
--- So what steps leave at last, without eta redexes, has the kind: a normal form before the pieces of its rows are
--- put in order.
--- Of putting them in order this isn't claimed. What a ++ (b ++ c) has is that a is apart from b ++ c, or from a row
--- equal to it;
--- that a is then apart from b would ask that equal rows have equal pieces, which isn't proved.
+-- So what steps leave at last, without eta redexes, has the kind: a normal form before the pieces of its rows are put
+-- in order. Of putting them in order this isn't claimed. What a ++ (b ++ c) has is that a is apart from b ++ c, or
+-- from a row equal to it; that a is then apart from b would ask that equal rows have equal pieces, which isn't
+-- proved.
 abbrev pub ReducedKeepsKinds : Type 0
 ReducedKeepsKinds = (G : Scope) (c d : Cn) (k : Kd) (room left now : ℕ)
     → Kinded G c k

@@ -27,3 +27,4 @@ pub mod SiteLaws
 pub mod ConSubstitution
 pub mod Grounded
 pub mod ConLaws
+pub mod ScopeLaws

@@ -5,20 +5,20 @@
 --   it is bound: of none; at the node
 -- fn
 --   kind of the type: of none; at the node
---   the pattern: of the pattern; at in the pattern
+--   the pattern: of the pattern; in the pattern
 --   its cover: of the pattern; at the node
 -- guard's fn
 --   kinds of both rows, their normal forms: of none; at the node
 -- call
---   each item fits what the items before it leave: of the function, the items up to it; at the function, where it
--- takes no such item; the term; the item
+--   each item fits what the items before it leave: of the function and the items up to it; at the function, where it
+--   takes no such item, at the term, or at the item
 -- let, val rec
 --   kind of a type: of none; at the declaration, or the term where the type isn't written
 --   a term has its type: of the term; at the term
 -- case
---   each pattern: of what is matched; at in the pattern
---   the types of branches: of with two branches; at the later branch's body
---   cover: of with all patterns; at the node
+--   each pattern: of what is matched; in the pattern
+--   the types of branches: with two branches; at the later branch's body
+--   cover: with all patterns; at the node
 -- (e : t)
 --   kind of the type: of none; at the node
 --   the term has it: of the term; at the term
@@ -62,13 +62,14 @@ use Rattle.core_terms.specs.Datatypes.{datatype_of}
 use Rattle.core_typing.specs.Scopes.{folder_of, Sc, under, normal_of}
 use Rattle.core_typing.specs.Cover.{Misses, TooLargeIn, levels, Shp}
 use Rattle.core_terms.specs.Markup.{in_body, context_row, MayBeInForm, Sort, holding, of_words, empty, a_form, an_input, a_button, stands, sort_of, attribute_type, Where}
-use Rattle.core_typing.specs.Typed.{branch_patterns, named_types, IsLinked, HasAttribute, IsWords}
+use Rattle.core_typing.specs.Typed.{branch_patterns, named_types, IsLinked, HasAttribute, IsWords, IsCallOf}
 use Rattle.core_typing.specs.Judged.{HasKind, LacksKind, flaw_at, guard_forms}
 use Rattle.core_typing.specs.Compared.{Alike, Differ, Large, Disjoint, Touch, RecordAnd, field_of, without_pieces}
 use Rattle.core_typing.specs.PatternFaults.{PatFound, PatFault}
 use Rattle.core_typing.specs.Asks.{no_cover}
 use Rattle.core_typing.specs.Found.{Found, FieldsFound, NodesFound}
 use Rattle.core_typing.specs.Faults.{Fault, unbound, a_variable, a_value, an_effect, a_constructor, an_attribute, a_folder, an_input_name, mismatch, not_disjoint, inexhaustive, redeclared, twice_attribute, link_not_call, not_serialisable, too_large, not_built}
+use Rattle.core_typing.specs.Carried.{CarriesTo, Filled}
 
 -- where a term stands
 abbrev pub place_of : Ex → Place
@@ -129,12 +130,10 @@ IsGuarded n = (c : Cn) × (d : Cn) × (t : Cn) × (n ≡ guarded c d t)
 abbrev pub IsRecord : Cn → Type 0
 IsRecord n = (r : Cn) × (n ≡ record_of r)
 
--- What is told where nothing may stand. In a void tag, wanted is () and found the type of the first node in it;
--- where that
--- itself is (), wanted is {}. In a title, wanted is string and found the type of the first node that isn't words;
--- where that is
--- a basic type, wanted is {}. At a name on another tag than an input's, wanted is the row without fields and found
--- the row of that name alone, with the value ().
+-- What is told where nothing may stand. In a void tag, wanted is () and found the type of the first node in it; where
+-- that itself is (), wanted is {}. In a title, wanted is string and found the type of the first node that isn't
+-- words; where that is a basic type, wanted is {}. At a name on another tag than an input's, wanted is the row
+-- without fields and found the row of that name alone, with the value ().
 abbrev pub nothing_like : Cn → Cn
 nothing_like unit_con = unit_type
 nothing_like _ = unit_con
@@ -177,9 +176,37 @@ pub data CallsTop : Ex → Type 0 where
   top_called : {p q : Place} {a b : Bool} {i : ℕ} {s : Sigil} {is : Its}
       → CallsTop (node p a (call (node q b (top i)) s is))
 
--- what a link or an action of a type breaks: it isn't such a call; it has another type, since a link lacks
--- arguments, or an action lacks more than the form or has it already; or it has its type, and constructors, guards
--- or types stand in the way of carrying the arguments
+-- the arguments of a link's call travel, and those and the form of an action's, whatever the function gives
+pub data Travels : Sc → AttrName → Ex → Type 0 where
+  link_travels : {G : Sc} {e : Ex} {i n : ℕ} {t u : Cn}
+      → IsCallOf e i n
+      → slice_get G.tops i ≡ Some t
+      → CarriesTo G.datatypes n t u
+      → Travels G attr.Link e
+  action_travels : {G : Sc} {e : Ex} {i n : ℕ} {t u a b : Cn}
+      → IsCallOf e i n
+      → slice_get G.tops i ≡ Some t
+      → CarriesTo G.datatypes n t u
+      → normal_of u ≡ Some (arrow a b)
+      → Filled a
+      → Travels G attr.Action e
+
+-- a link lacks no argument, and an action the form alone
+pub data AsCalled : AttrName → Cn → Type 0 where
+  as_a_link : {v n : Cn}
+      → normal_of v ≡ Some n
+      → (IsFunction n → ⊥)
+      → AsCalled attr.Link v
+  as_an_action : {v a b n : Cn}
+      → normal_of v ≡ Some (arrow a b)
+      → normal_of b ≡ Some n
+      → (IsFunction n → ⊥)
+      → AsCalled attr.Action v
+
+-- What a link or an action of a type breaks: it isn't such a call; it has another type, since a link lacks arguments,
+-- or an action lacks more than the form or has it already; it has another type all the same, and its arguments don't
+-- travel either, so that the earlier place counts; or it has its type, and constructors, guards or types stand in the
+-- way of carrying the arguments.
 pub data NotLinked : Sc → Place → AttrName → Cn → Ex → Fault → Type 0 where
   link_calls_none : {G : Sc} {p : Place} {t : Cn} {e : Ex}
       → (CallsTop e → ⊥)
@@ -207,6 +234,13 @@ pub data NotLinked : Sc → Place → AttrName → Cn → Ex → Fault → Type 
       → normal_of v ≡ Some (arrow a b)
       → normal_of b ≡ Some (arrow c d)
       → NotLinked G p attr.Action t e (link_not_call p)
+  cannot_travel : {G : Sc} {p : Place} {n : AttrName} {t v : Cn} {e : Ex}
+      → CallsTop e
+      → Found G e v
+      → (Alike t v → ⊥)
+      → AsCalled n v
+      → (Travels G n e → ⊥)
+      → NotLinked G p n t e (not_serialisable p)
   not_carried : {G : Sc} {p : Place} {n : AttrName} {t v : Cn} {e : Ex}
       → CallsTop e
       → Found G e v
@@ -367,9 +401,8 @@ pub data AttributeTwice : Ats → Fault → Type 0 where
       → AttributeTwice as' f
       → AttributeTwice (attribute p n e as') f
 
--- a node beside others: what it fills is no row of types; it has another type than its place and that row want; or
--- it has
--- another behind it, and clashes with the fields before it, or with those of all behind it where these are well
+-- a node beside others: what it fills is no row of types; it has another type than its place and that row want; or it
+-- has another behind it, and clashes with the fields before it, or with those of all behind it where these are well
 pub data NodeFault : Sc → Cn → Cn → Xs → Fault → Type 0 where
   -- x
   fills_kind : {G : Sc} {c u b : Cn} {e : Ex} {xs : Xs} {f : Fault}

@@ -12,9 +12,8 @@ use Rattle.core_terms.specs.Trees.{Dt, arity}
 use Rattle.con_terms.specs.Trees.{units}
 
 -- kinds of constructor variables and assumed guards; what these variables are called, the innermost first; types of
--- variables, the innermost first; types of the top-level values, by their numbers; datatypes; the symbol of folder
--- at each
--- kind; how many foreign effects there are. No rule asks what a variable is called: faults keep it, so that the
+-- variables, the innermost first; types of the top-level values, by their numbers; datatypes; the symbol of folder at
+-- each kind; how many foreign effects there are. No rule asks what a variable is called: faults keep it, so that the
 -- constructors in them can be printed
 pub record Sc : Type 0 where
   pub kinds : Scope
@@ -68,7 +67,11 @@ abbrev pub basis_kinds : List (ℕ × Kd)
 basis_kinds =
     (int_name, types) ∷ (string_name, types) ∷ (url_name, types) ∷ (transaction_name, to types types)
     ∷ (xml_name, to (row_of units) (to (row_of types) (to (row_of types) types)))
-    ∷ (show_name, to types types) ∷ (eq_name, to types types) ∷ (ord_name, to types types) ∷ (num_name, to types types)
+    ∷ (show_name, to types types) ∷ (eq_name, to types types) ∷ (ord_name, to types types) ∷ (
+      num_name,
+      to types
+          types,
+    )
     ∷ (sql_table_name, to (row_of types) types)
     ∷ (sql_query_name, to (row_of (row_of types)) (to (row_of types) types))
     ∷ (sql_exp_name, to (row_of (row_of types)) (to types types))

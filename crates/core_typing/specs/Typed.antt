@@ -125,7 +125,6 @@ mutual
         → datatype_of G.datatypes s ≡ Some d
         → slice_get d.constructors j ≡ Some c
         → Typed A G (node p a (built s j)) (constructor_type d c)
-    -- functions: of a value, of a constructor, of a guard's proof
     -- fn p => e : t -> u
     of_fn : {G : Sc} {p : Place} {a : Bool} {q : Pt} {t u : Cn} {ts : List Cn} {e : Ex}
         → Kinded G.kinds t types
@@ -202,7 +201,7 @@ mutual
     of_element : {G : Sc} {p : Place} {a : Bool} {m : El} {t : Cn}
         → ElementTyped A G m t
         → Typed A G (node p a (element m)) t
-    -- a literal: as the content of an element, with its rows written out
+    -- <xml>x y</xml>: as the content of an element
     of_literal : {G : Sc} {p : Place} {a : Bool} {c u b : Cn} {xs : Xs}
         → Kinded G.kinds c (row_of units)
         → Kinded G.kinds u (row_of types)
@@ -229,9 +228,8 @@ mutual
         → Kinded G.kinds c k
         → Applies A G (subst t c) is v
         → Applies A G (poly i k t) (with_con p o c is) v
-    -- what is left once the guard is proved was a type where the guard was assumed; where kinds are asked, it is
-    -- one without it
-    -- f !, where f : [c ~ d] => t
+    -- f !, where f : [c ~ d] => t. What is left once the guard is proved was a type where the guard was assumed; where
+    -- kinds are asked, it is one without it
     to_guard : {G : Sc} {p : Place} {a : Bool} {c d t v : Cn} {is : Its}
         → Apart G.kinds.guards c d
         → A.exchange G.kinds t
@@ -353,9 +351,9 @@ mutual
         → AttributesTyped A G u g as'
         → AttributesTyped A G u g (attribute p n e as')
 
-  -- nodes beside one another: each has the fields before it as filled, and fills its own. One that has another
-  -- behind it is
-  -- apart from the fields before it and from those of all behind it; a last one is asked for nothing but its type
+  -- nodes beside one another: each has the fields before it as filled, and fills its own. One that has another behind
+  -- it is apart from the fields before it and from those of all behind it; a last one is asked for nothing but its
+  -- type
   pub data NodesTyped (A : Asks) : Sc → Cn → Cn → Xs → Cn → Type 0 where
     no_node : {G : Sc} {c u : Cn} → NodesTyped A G c u no_nodes no_types
     -- x: the last node, or an only one

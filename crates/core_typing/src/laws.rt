@@ -4,6 +4,7 @@ ghost use Rattle.core_typing.specs.FaultLaws.{FoundOrFails, FoundTellsNothing, P
 ghost use Rattle.core_typing.specs.FoundProgram.{FoundIsAccepted, FoundIsClear};
 ghost use Rattle.core_typing.specs.KindLaws.{BasisHasKinds, ConstructorsSubstitute, EtaKeepsKinds, KindsStayUnderBinders, KindsStayUnderGuards, KindsSubstitute, ReducedKeepsKinds, StepsKeepKinds};
 ghost use Rattle.core_typing.specs.ConLaws.{AcceptedScopesHaveTypes, ConstructorsSubstituteInTerms, TypesHaveKindType, TypingsStayUnderBinders, TypingsSubstitute};
+ghost use Rattle.core_typing.specs.ScopeLaws.{DeclarationsSeeWhatIsBefore};
 ghost use Rattle.core_typing.specs.SiteLaws.{NoEntryBeginsAnother, OneCallOfAccepted, OneSiteOfAccepted};
 
 /// A type may be replaced by an equal one.
@@ -151,4 +152,9 @@ pub fn an_only_node_asks_no_guard()
 /// No entry's name begins another's: of the pieces of a path, those that name the entry are told.
 pub fn no_entry_begins_another()
     ensures { NoEntryBeginsAnother }
+{}
+
+/// A declaration sees what is declared before it, and no more.
+pub fn declarations_see_what_is_before()
+    ensures { DeclarationsSeeWhatIsBefore }
 {}

@@ -1,0 +1,5 @@
+use Rattle.told_faults.proofs.Lists.{two_sets}
+use Rattle.told_faults.proofs.laws.of_two_sets_of_nodes_the_earlier_counts.Goals as goal
+
+pub returns : goal.returns
+returns c = two_sets

@@ -1,0 +1,4 @@
+pub mod Computed
+pub mod Told
+pub mod Heads
+pub mod Laws
