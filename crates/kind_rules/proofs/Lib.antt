@@ -5,3 +5,7 @@ pub mod OneKind
 pub mod Lists
 pub mod Tuples
 pub mod Told
+pub mod Causes
+pub mod Literals
+pub mod Fairness
+pub mod Layers

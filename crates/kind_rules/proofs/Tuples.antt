@@ -12,7 +12,7 @@ use Rattle.con_terms.specs.declared.kind.Kind.TheViews.{roll-Kinds, out-Kinds}
 use Rattle.con_terms.specs.declared.kind.Kind.TheFolds.{the_lemmas}
 use Rattle.con_terms.proofs.Lists.{kinds_tree_is, kinds_listed}
 
-take_past : {X : Type 0} (xs : List X) (i : ℕ) → length xs ≤ i → take i xs ≡ xs
+pub take_past : {X : Type 0} (xs : List X) (i : ℕ) → length xs ≤ i → take i xs ≡ xs
 take_past [] zero h = refl
 take_past [] (suc i) h = refl
 take_past (x ∷ xs) zero h = absurd (omega (arith, h))

@@ -15,7 +15,10 @@ abbrev mutual
   kinding G (basic s) = or_flaw (unbound_basic s) (basic_kind G.basics s)
   kinding G (arrow a b) = arrow_kind (both (kinding G a) (kinding G b))
   kinding G (poly x k b) = type_kind (kinding (bind k G) b)
-  kinding G (guarded a b c) = and_then (guard_sides a b (both (kinding G a) (kinding G b))) (λ (mn : Cn × Cn). type_kind (kinding (assume mn.0 mn.1 G) c))
+  kinding G (guarded a b c) =
+      and_then
+      (guard_sides a b (both (kinding G a) (kinding G b)))
+      (λ (mn : Cn × Cn). type_kind (kinding (assume mn.0 mn.1 G) c))
   kinding G (record_of a) = record_kind (kinding G a)
   kinding G (app f a) = app_kind (both (kinding G f) (kinding G a))
   kinding G (lambda k b) = lambda_kind k (kinding (bind k G) b)

@@ -1,8 +1,10 @@
 pub mod Scopes
 pub mod Flaws
 pub mod Compared
+pub mod Comparison
 pub mod Rules
 pub mod Kinding
 pub mod View
 pub mod Faults
+pub mod Causes
 pub mod Laws

@@ -117,7 +117,8 @@ abbrev pub components : Kd → List Kd
 components (tuple_of ks) = kind_list ks
 components k = []
 
--- a component of a tuple; where there is none with this number, a tuple with one component more, of kind Type, is told as wanted
+-- a component of a tuple; where there is none with this number, a tuple with one component more, of kind Type, is
+-- told as wanted
 abbrev pub component_kind : ℕ → Kd → Result Kd Flw
 component_kind n k = or_flaw (kinds_differ (tuple_of (kinds_from (components k ++ types ∷ []))) k) (slice_get (components k) n)
 

@@ -3,29 +3,53 @@ use Rattle.std.specs.Prelude.{ℕ, List, Option, Some, None, Result, Ok, Err, ma
 use Rattle.std.specs.Global.{Vec}
 use Rattle.con_terms.specs.Trees.{Kd, Cn}
 use Rattle.con_terms.specs.declared.kind.Kind.{Kind}
-use Rattle.con_terms.specs.Kinded.{Scope}
+use Rattle.con_terms.specs.Kinded.{Scope, assume, bind}
 use Rattle.con_terms.specs.View.{kind_tree, con_tree}
-use Rattle.disjoint_prover.specs.View.{guard_list}
 use Rattle.row_normal.specs.View.{normal_tree}
 use Rattle.row_normal.specs.declared.form.Normal.{Normal}
 use Rattle.kind_rules.specs.Flaws.{Flw, unbound_variable, unbound_basic, kinds_differ, pieces_touch, too_large}
 use Rattle.kind_rules.specs.declared.flaw.Flaw.{Flaw}
 use Rattle.kind_rules.specs.declared.flaw.Flaw.TheVariants.{Variable, Basic as BasicName, Differ, Touch, TooLarge}
+use Rattle.kind_rules.specs.Scopes.{empty_scope, with_basics}
 use Rattle.kind_rules.specs.declared.scope.Basic.{Basic}
+use Rattle.kind_rules.specs.declared.scope.Entry.{Entry}
+use Rattle.kind_rules.specs.declared.scope.Entry.TheVariants.{Binder, Guard, Basics}
+use Rattle.kind_rules.specs.declared.scope.Layers.{Layers}
+use Rattle.kind_rules.specs.declared.scope.Layers.TheOpen.{Layer-F, Layers-F}
+use Rattle.kind_rules.specs.declared.scope.Layers.TheFolds.{fold-Layers}
 use Rattle.kind_rules.specs.declared.scope.Scope.{Scope as ScopeValue}
+use Rattle.kind_rules.specs.Comparison as specs
 use Rattle.kind_rules.specs.declared.compare.Sides.{Sides}
+use Rattle.kind_rules.specs.declared.compare.Comparison.{Comparison}
+use Rattle.kind_rules.specs.declared.compare.Comparison.TheVariants as result
 use Rattle.kind_rules.specs.declared.flaw.Two.{Two}
 
 abbrev pub basic_tree : Basic → ℕ × Kd
 basic_tree b = (b.name.number, kind_tree b.kind)
 
--- the scope: its binders with the innermost first, its guards and basic names with the last first
+-- the scope with one more entry
+abbrev pub entered : Entry → Scope → Scope
+entered (Binder k) G = bind (kind_tree k) G
+entered (Guard s) G = assume (con_tree s.left) (con_tree s.right) G
+entered (Basics bs) G = with_basics (map basic_tree bs.items) G
+
+abbrev pub layers_step : Layers-F Scope Scope → Scope
+layers_step Layers-F.Empty = empty_scope
+layers_step (Layers-F.Over l) = l.value
+
+abbrev pub layer_step : Layer-F Scope Scope → Scope
+layer_step l = entered l.entry l.rest
+
+-- what was put into a scope, one after the other
+abbrev pub layers_view : Layers → Scope
+layers_view = fold-Layers Scope Scope layers_step layer_step
+
 abbrev pub scope_view : ScopeValue → Scope
-scope_view s = record {
-  binders = map kind_tree s.binders.items;
-  guards = guard_list s.guards;
-  basics = map basic_tree s.basics.items;
-}
+scope_view s = layers_view s.layers
+
+abbrev pub maybe_kind : Option Kind → Option Kd
+maybe_kind None = None
+maybe_kind (Some k) = Some (kind_tree k)
 
 abbrev pub flaw_tree : Flaw → Flw
 flaw_tree (Variable i) = unbound_variable i
@@ -46,6 +70,11 @@ maybe_flaw (Some flaw) = Some (flaw_tree flaw)
 -- two normal forms
 abbrev pub sides_tree : Sides → Cn × Cn
 sides_tree s = (normal_tree s.left, normal_tree s.right)
+
+abbrev pub comparison_tree : Comparison → specs.Comparison
+comparison_tree result.Alike = specs.alike
+comparison_tree (result.Differing s) = specs.differing (normal_tree s.value.left) (normal_tree s.value.right)
+comparison_tree result.TooLarge = specs.incomparable
 
 -- a normal form with the units that are left
 abbrev pub maybe_form : Option Normal → ℕ → Option (Cn × ℕ)

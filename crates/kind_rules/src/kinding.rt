@@ -4,6 +4,7 @@ ghost use Rattle.std.specs.Prelude.{◌≡◌, IfErr, IfOk};
 ghost use Rattle.con_terms.specs.Kinded.{Kinded, assume as assumed, bind as bound};
 ghost use Rattle.con_terms.specs.Trees.{Kd, app, arrow, cat, guarded, lambda, row};
 ghost use Rattle.con_terms.specs.View.{con_tree, cons_tree, kind_tree, pairs_tree};
+ghost use Rattle.kind_rules.specs.Causes.{HasCause};
 ghost use Rattle.kind_rules.specs.Faults.{Gives, KeepsTwoKinds, TellsComparison};
 ghost use Rattle.kind_rules.specs.Kinding.{judged, judged_at, kinding, kinding_all, kinding_fields};
 ghost use Rattle.kind_rules.specs.Rules.{both as found_both, proj_kind, record_kind, tuple_kind, type_kind};
@@ -27,12 +28,14 @@ use std::alloc::{AllocError, Global};
 /// The kind of a constructor that stands at a place, or why it has none.
 ///
 /// All that is told stands at this place. A flaw of a part comes before one of the whole, and that of an earlier part
-/// before that of a later one. A constructor that is deeper than 2,000 is TooLarge before all else; so is one of which a
+/// before that of a later one. A constructor that is deeper than 2,000 is TooLarge before all else; so is one of
+/// which a
 /// comparison takes 100,000 units or more, both sides together.
 pub fn kind_of(alloc: Global, s: &Scope, c: &Con, at: Place) -> Result<Kind, KindFault>
     ensures kinded { IfOk result (λ k. Kinded (scope_view s.now) (con_tree c.now) (kind_tree k)) }
     ensures exact { Gives at result (judged (scope_view s.now) (con_tree c.now)) }
     ensures two_kinds { IfErr result KeepsTwoKinds }
+    ensures pieces_or_size_only_with_a_cause { IfErr result (HasCause (scope_view s.now) (con_tree c.now)) }
     ensures unbound_or_mismatch_only_where_unkinded { (k : Kd) → Kinded (scope_view s.now) (con_tree c.now) k → IfErr result TellsComparison }
 {
     match judge(alloc, s, c)? {
@@ -49,7 +52,8 @@ pub fn judge_at(
     c: &Con,
     wanted: &Kind,
 ) -> Result<Result<Kind, Flaw>, AllocError>
-    ensures { IfOk result (λ r. found kind_tree r ≡ judged_at (scope_view s.now) (con_tree c.now) (kind_tree wanted.now)) }
+    ensures { IfOk result
+        (λ r. found kind_tree r ≡ judged_at (scope_view s.now) (con_tree c.now) (kind_tree wanted.now)) }
 {
     match judge(alloc, s, c)? {
         Err(flaw) => Ok(Err(flaw)),
@@ -94,7 +98,9 @@ fn find(alloc: Global, s: &Scope, c: &Con) -> Result<Result<Kind, Flaw>, AllocEr
 
 #[cycle(find)]
 fn find_both(alloc: Global, s: &Scope, a: &Con, b: &Con) -> Result<Result<Two, Flaw>, AllocError>
-    ensures { IfOk result (λ r. found two_trees r ≡ found_both (kinding (scope_view s.now) (con_tree a.now)) (kinding (scope_view s.now) (con_tree b.now))) }
+    ensures { IfOk result
+        (λ r. found two_trees r
+        ≡ found_both (kinding (scope_view s.now) (con_tree a.now)) (kinding (scope_view s.now) (con_tree b.now))) }
 {
     let first = find(alloc, s, a)?;
     let second = find(alloc, s, b)?;
@@ -103,7 +109,8 @@ fn find_both(alloc: Global, s: &Scope, a: &Con, b: &Con) -> Result<Result<Two, F
 
 #[cycle(find)]
 fn find_under(alloc: Global, s: &Scope, k: &Kind, b: &Con) -> Result<Result<Kind, Flaw>, AllocError>
-    ensures { IfOk result (λ r. found kind_tree r ≡ kinding (bound (kind_tree k.now) (scope_view s.now)) (con_tree b.now)) }
+    ensures { IfOk result
+        (λ r. found kind_tree r ≡ kinding (bound (kind_tree k.now) (scope_view s.now)) (con_tree b.now)) }
 {
     let inner = s.bind(k)?;
     find(alloc, &inner, b)
@@ -111,7 +118,8 @@ fn find_under(alloc: Global, s: &Scope, k: &Kind, b: &Con) -> Result<Result<Kind
 
 #[cycle(find)]
 fn find_arrow(alloc: Global, s: &Scope, a: &Con, b: &Con) -> Result<Result<Kind, Flaw>, AllocError>
-    ensures { IfOk result (λ r. found kind_tree r ≡ kinding (scope_view s.now) (arrow (con_tree a.now) (con_tree b.now))) }
+    ensures { IfOk result
+        (λ r. found kind_tree r ≡ kinding (scope_view s.now) (arrow (con_tree a.now) (con_tree b.now))) }
 {
     let sides = find_both(alloc, s, a, b)?;
     of_arrow(alloc, sides)
@@ -119,7 +127,8 @@ fn find_arrow(alloc: Global, s: &Scope, a: &Con, b: &Con) -> Result<Result<Kind,
 
 #[cycle(find)]
 fn find_poly(alloc: Global, s: &Scope, k: &Kind, b: &Con) -> Result<Result<Kind, Flaw>, AllocError>
-    ensures { IfOk result (λ r. found kind_tree r ≡ type_kind (kinding (bound (kind_tree k.now) (scope_view s.now)) (con_tree b.now))) }
+    ensures { IfOk result
+        (λ r. found kind_tree r ≡ type_kind (kinding (bound (kind_tree k.now) (scope_view s.now)) (con_tree b.now))) }
 {
     let body = find_under(alloc, s, k, b)?;
     of_body(alloc, body)
@@ -133,7 +142,9 @@ fn find_guarded(
     b: &Con,
     body: &Con,
 ) -> Result<Result<Kind, Flaw>, AllocError>
-    ensures { IfOk result (λ r. found kind_tree r ≡ kinding (scope_view s.now) (guarded (con_tree a.now) (con_tree b.now) (con_tree body.now))) }
+    ensures { IfOk result
+        (λ r. found kind_tree r
+        ≡ kinding (scope_view s.now) (guarded (con_tree a.now) (con_tree b.now) (con_tree body.now))) }
 {
     let sides = find_both(alloc, s, a, b)?;
     match of_guard(alloc, a, b, sides)? {
@@ -149,7 +160,9 @@ fn find_assuming(
     guard: &Sides,
     body: &Con,
 ) -> Result<Result<Kind, Flaw>, AllocError>
-    ensures { IfOk result (λ r. found kind_tree r ≡ type_kind (kinding (assumed (sides_tree guard.now).0 (sides_tree guard.now).1 (scope_view s.now)) (con_tree body.now))) }
+    ensures { let sides = sides_tree guard.now in
+        IfOk result
+        (λ r. found kind_tree r ≡ type_kind (kinding (assumed sides.0 sides.1 (scope_view s.now)) (con_tree body.now))) }
 {
     let inner = s.assume(&guard.left, &guard.right)?;
     let body = find(alloc, &inner, body)?;
@@ -166,7 +179,8 @@ fn find_record(alloc: Global, s: &Scope, a: &Con) -> Result<Result<Kind, Flaw>, 
 
 #[cycle(find)]
 fn find_app(alloc: Global, s: &Scope, f: &Con, a: &Con) -> Result<Result<Kind, Flaw>, AllocError>
-    ensures { IfOk result (λ r. found kind_tree r ≡ kinding (scope_view s.now) (app (con_tree f.now) (con_tree a.now))) }
+    ensures { IfOk result
+        (λ r. found kind_tree r ≡ kinding (scope_view s.now) (app (con_tree f.now) (con_tree a.now))) }
 {
     let parts = find_both(alloc, s, f, a)?;
     of_app(alloc, parts)
@@ -179,7 +193,8 @@ fn find_lambda(
     k: &Kind,
     b: &Con,
 ) -> Result<Result<Kind, Flaw>, AllocError>
-    ensures { IfOk result (λ r. found kind_tree r ≡ kinding (scope_view s.now) (lambda (kind_tree k.now) (con_tree b.now))) }
+    ensures { IfOk result
+        (λ r. found kind_tree r ≡ kinding (scope_view s.now) (lambda (kind_tree k.now) (con_tree b.now))) }
 {
     let body = find_under(alloc, s, k, b)?;
     of_lambda(alloc, k, body)
@@ -192,18 +207,20 @@ fn find_row(
     k: &Kind,
     ps: &Pairs,
 ) -> Result<Result<Kind, Flaw>, AllocError>
-    ensures { IfOk result (λ r. found kind_tree r ≡ kinding (scope_view s.now) (row (kind_tree k.now) (pairs_tree ps.now))) }
+    ensures { IfOk result
+        (λ r. found kind_tree r ≡ kinding (scope_view s.now) (row (kind_tree k.now) (pairs_tree ps.now))) }
 {
     let fields = find_fields(alloc, s, ps)?;
-    of_row(alloc, &s.guards, k, ps, fields)
+    of_row(alloc, s, k, ps, fields)
 }
 
 #[cycle(find)]
 fn find_cat(alloc: Global, s: &Scope, a: &Con, b: &Con) -> Result<Result<Kind, Flaw>, AllocError>
-    ensures { IfOk result (λ r. found kind_tree r ≡ kinding (scope_view s.now) (cat (con_tree a.now) (con_tree b.now))) }
+    ensures { IfOk result
+        (λ r. found kind_tree r ≡ kinding (scope_view s.now) (cat (con_tree a.now) (con_tree b.now))) }
 {
     let sides = find_both(alloc, s, a, b)?;
-    of_cat(alloc, &s.guards, a, b, sides)
+    of_cat(alloc, s, a, b, sides)
 }
 
 #[cycle(find)]

@@ -17,7 +17,9 @@ pub fn found_is_kinded()
     ensures { FoundIsKinded }
 {}
 
-/// Where a constructor has a kind, this kind is found, or two rows are not known to be apart.
+/// Where a constructor has a kind, this kind is found; or two rows are not known to be apart, and what is told of
+/// them has
+/// its cause in the constructor.
 pub fn kind_is_found()
     ensures { KindIsFound }
 {}

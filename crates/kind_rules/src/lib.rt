@@ -3,7 +3,7 @@
 //! What it means to have a kind stands in `con_terms`; how kinds are found stands in `specs/`, rule by rule.
 #![tactic(auto)]
 
-mod compare;
+pub mod compare;
 pub mod fault;
 pub mod flaw;
 pub mod kinding;

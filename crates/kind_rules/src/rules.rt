@@ -3,25 +3,24 @@
 ghost use Rattle.std.specs.Prelude.{◌≡◌, ◌++◌, ◌∷◌, [], map, IfOk};
 ghost use Rattle.con_terms.specs.Trees.{kind_list, row_of, to, tuple_of, types};
 ghost use Rattle.con_terms.specs.View.{con_tree, kind_tree, kinds_from, kinds_tree, pairs_tree};
-ghost use Rattle.disjoint_prover.specs.View.{guard_list};
 ghost use Rattle.kind_rules.specs.Rules.{app_kind, applied_kind, arrow_kind, cat_kind, component_kind, expects_row as row_expected, field_flaw as flaw_of_field, fields_flaw as flaw_of_fields, guard_rows, guard_sides, lambda_kind, map_kind, proj_kind, record_kind, row_flaw as flaw_of_row, row_kind, same_rows, tuple_kind, type_kind, unless as found_unless, unlike};
-ghost use Rattle.kind_rules.specs.View.{found, kind_trees, maybe_flaw, pair_trees, sides_tree, two_trees};
+ghost use Rattle.kind_rules.specs.View.{found, kind_trees, maybe_flaw, pair_trees, scope_view, sides_tree, two_trees};
 
 use crate::compare::{Sides, flaw_among, flaw_between, normal_sides};
 use crate::flaw::{Flaw, Two, both, compared, expects, mismatch, unless};
+use crate::scope::Scope;
 use con_terms::con::{Con, Pairs};
 use con_terms::kind::{Kind, Kinds, copy_kind};
-use disjoint_prover::guards::Guards;
 use std::alloc::{AllocError, Global};
 
-// `{k}`
+/// `{k}`
 fn rows_of(alloc: Global, k: Kind) -> Result<Kind, AllocError>
     ensures { IfOk result (λ new. kind_tree new ≡ row_of (kind_tree k)) }
 {
     Ok(Kind::Row(Box::new(alloc, k)?))
 }
 
-// `k -> l`
+/// `k -> l`
 fn function(alloc: Global, k: Kind, l: Kind) -> Result<Kind, AllocError>
     ensures { IfOk result (λ new. kind_tree new ≡ to (kind_tree k) (kind_tree l)) }
 {
@@ -30,7 +29,7 @@ fn function(alloc: Global, k: Kind, l: Kind) -> Result<Kind, AllocError>
     Ok(Kind::Arrow(from, to))
 }
 
-// The kind of a row, whichever it is.
+/// The kind of a row, whichever it is.
 fn expects_row(alloc: Global, kind: Kind) -> Result<Result<Kind, Flaw>, AllocError>
     ensures { IfOk result (λ r. found kind_tree r ≡ row_expected (kind_tree kind)) }
 {
@@ -69,7 +68,7 @@ pub fn of_arrow(alloc: Global, sides: Result<Two, Flaw>) -> Result<Result<Kind, 
     }
 }
 
-// The kinds of the two sides of a guard.
+/// The kinds of the two sides of a guard.
 fn two_rows(alloc: Global, sides: Result<Two, Flaw>) -> Result<Result<Two, Flaw>, AllocError>
     ensures { IfOk result (λ r. found two_trees r ≡ guard_rows (found two_trees sides)) }
 {
@@ -91,7 +90,8 @@ pub fn of_guard(
     b: &Con,
     sides: Result<Two, Flaw>,
 ) -> Result<Result<Sides, Flaw>, AllocError>
-    ensures { IfOk result (λ r. found sides_tree r ≡ guard_sides (con_tree a.now) (con_tree b.now) (found two_trees sides)) }
+    ensures { IfOk result
+        (λ r. found sides_tree r ≡ guard_sides (con_tree a.now) (con_tree b.now) (found two_trees sides)) }
 {
     match two_rows(alloc, sides)? {
         Err(flaw) => Ok(Err(flaw)),
@@ -112,7 +112,7 @@ pub fn of_record(alloc: Global, row: Result<Kind, Flaw>) -> Result<Result<Kind, 
     }
 }
 
-// The kind of a function's result, where the argument has this kind.
+/// The kind of a function's result, where the argument has this kind.
 fn of_applied(alloc: Global, f: Kind, argument: Kind) -> Result<Result<Kind, Flaw>, AllocError>
     ensures { IfOk result (λ r. found kind_tree r ≡ applied_kind (kind_tree f) (kind_tree argument)) }
 {
@@ -155,7 +155,7 @@ pub fn of_lambda(
     }
 }
 
-// The kind of both sides of `++`.
+/// The kind of both sides of `++`.
 fn one_row(alloc: Global, sides: Result<Two, Flaw>) -> Result<Result<Kind, Flaw>, AllocError>
     ensures { IfOk result (λ r. found kind_tree r ≡ same_rows (found two_trees sides)) }
 {
@@ -174,22 +174,26 @@ fn one_row(alloc: Global, sides: Result<Two, Flaw>) -> Result<Result<Kind, Flaw>
 /// `a ++ b`
 pub fn of_cat(
     alloc: Global,
-    g: &Guards,
+    s: &Scope,
     a: &Con,
     b: &Con,
     sides: Result<Two, Flaw>,
 ) -> Result<Result<Kind, Flaw>, AllocError>
-    ensures { IfOk result (λ r. found kind_tree r ≡ cat_kind (guard_list g.now) (con_tree a.now) (con_tree b.now) (found two_trees sides)) }
+    ensures { IfOk result
+        (λ r. found kind_tree r
+        ≡ cat_kind (scope_view s.now).guards (con_tree a.now) (con_tree b.now) (found two_trees sides)) }
 {
     match one_row(alloc, sides)? {
         Err(flaw) => Ok(Err(flaw)),
         Ok(kind) => {
-            let flaw = flaw_between(alloc, g, a, b, &kind)?;
+            let guards = s.guards()?;
+            let flaw = flaw_between(alloc, &guards, a, b, &kind)?;
             Ok(unless(flaw, kind))
         }
     }
 }
 
+/// What is wrong with one field of a literal of this kind.
 fn flaw_in_field(alloc: Global, k: &Kind, field: &Two) -> Result<Option<Flaw>, AllocError>
     ensures { IfOk result (λ o. maybe_flaw o ≡ flaw_of_field (kind_tree k.now) (two_trees field.now)) }
 {
@@ -199,6 +203,7 @@ fn flaw_in_field(alloc: Global, k: &Kind, field: &Two) -> Result<Option<Flaw>, A
     }
 }
 
+/// What is wrong with the first such field.
 fn flaw_in_fields(alloc: Global, k: &Kind, fields: &Vec<Two>) -> Result<Option<Flaw>, AllocError>
     ensures { IfOk result (λ o. maybe_flaw o ≡ flaw_of_fields (kind_tree k.now) (pair_trees fields.now)) }
 {
@@ -211,35 +216,40 @@ fn flaw_in_fields(alloc: Global, k: &Kind, fields: &Vec<Two>) -> Result<Option<F
     Ok(None)
 }
 
+/// What is wrong with a literal, of which this is found for the fields.
 fn flaw_in_row(
     alloc: Global,
-    g: &Guards,
+    s: &Scope,
     k: &Kind,
     ps: &Pairs,
     fields: &Vec<Two>,
 ) -> Result<Option<Flaw>, AllocError>
-    ensures { IfOk result (λ o. maybe_flaw o ≡ flaw_of_row (guard_list g.now) (kind_tree k.now) (pairs_tree ps.now) (pair_trees fields.now)) }
+    ensures { IfOk result
+        (λ o. maybe_flaw o
+        ≡ flaw_of_row (scope_view s.now).guards (kind_tree k.now) (pairs_tree ps.now) (pair_trees fields.now)) }
 {
     match flaw_in_fields(alloc, k, fields)? {
         Some(flaw) => Ok(Some(flaw)),
-        None => flaw_among(alloc, g, ps),
+        None => flaw_among(alloc, s, ps),
     }
 }
 
 /// `[n = v, ..]`
 pub fn of_row(
     alloc: Global,
-    g: &Guards,
+    s: &Scope,
     k: &Kind,
     ps: &Pairs,
     fields: Result<Vec<Two>, Flaw>,
 ) -> Result<Result<Kind, Flaw>, AllocError>
-    ensures { IfOk result (λ r. found kind_tree r ≡ row_kind (guard_list g.now) (kind_tree k.now) (pairs_tree ps.now) (found pair_trees fields)) }
+    ensures { IfOk result
+        (λ r. found kind_tree r
+        ≡ row_kind (scope_view s.now).guards (kind_tree k.now) (pairs_tree ps.now) (found pair_trees fields)) }
 {
     match fields {
         Err(flaw) => Ok(Err(flaw)),
         Ok(fields) => {
-            let flaw = flaw_in_row(alloc, g, k, ps, &fields)?;
+            let flaw = flaw_in_row(alloc, s, k, ps, &fields)?;
             let kind = copy_kind(alloc, k)?;
             Ok(unless(flaw, rows_of(alloc, kind)?))
         }
@@ -264,7 +274,7 @@ pub fn of_tuple(kinds: Result<Vec<Kind>, Flaw>) -> Result<Kind, Flaw>
     Ok(Kind::Tuple(Kinds { items: kinds? }))
 }
 
-// The tuple with one more component, of kind `Type`.
+/// The tuple with one more component, of kind `Type`.
 fn longer(alloc: Global, ks: &Kinds) -> Result<Kind, AllocError>
     ensures { IfOk result (λ new. kind_tree new ≡ tuple_of (kinds_from (kind_list (kinds_tree ks.now) ++ types ∷ []))) }
 {
@@ -276,6 +286,7 @@ fn longer(alloc: Global, ks: &Kinds) -> Result<Kind, AllocError>
     Ok(Kind::Tuple(Kinds { items }))
 }
 
+/// The kind of a component of a tuple.
 fn component_of(alloc: Global, ks: Kinds, number: u32) -> Result<Result<Kind, Flaw>, AllocError>
     ensures { IfOk result (λ r. found kind_tree r ≡ component_kind number (tuple_of (kinds_tree ks))) }
 {

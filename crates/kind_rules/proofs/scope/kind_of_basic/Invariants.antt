@@ -1,7 +1,0 @@
-use Rattle.std.proofs.Common.{◌≡◌, map, drop}
-use Rattle.con_terms.specs.Kinded.{basic_kind}
-use Rattle.kind_rules.specs.View.{basic_tree}
-use Rattle.kind_rules.proofs.scope.kind_of_basic.Given as goal
-
-abbrev pub invariant-loop-i : goal.invariant-loop-i
-invariant-loop-i l = basic_kind (map basic_tree l.s.basics.items) l.name.number ≡ basic_kind (map basic_tree (drop l.i l.s.basics.items)) l.name.number
