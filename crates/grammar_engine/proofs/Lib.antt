@@ -1,44 +1,14 @@
-pub mod Chosen
-pub mod NoneBegins
-pub mod Grown
-pub mod Grows
-pub mod EveryForm
-pub mod Ranks
-pub mod Smaller
-pub mod Decided
-pub mod Leading
-pub mod Unique
-pub mod Shortest
-pub mod Calm
-pub mod Sound
-pub mod Filling
-pub mod Levels
-pub mod Allowing
-pub mod Splicing
-pub mod Readies
-pub mod Low
-pub mod Whole
-pub mod Pieces
-pub mod Scan
-pub mod Scanned
-pub mod Skimmed
-pub mod ConFronts
-pub mod Context
-pub mod ListFronts
-pub mod TextParts
-pub mod Sole
-pub mod Roomier
-pub mod Least
-pub mod Agreeing
-pub mod Steps
-pub mod Trailing
-pub mod Racing
-pub mod Raced
-pub mod Roomy
-pub mod Going
-pub mod Naming
-pub mod Exact
-pub mod Passed
-pub mod Ways
-pub mod Refusing
-pub mod Refusals
+-- all of the clauses below
+pub mod Bools
+-- The laws of the table.
+pub mod Table
+-- What holds of every tree.
+pub mod Trees
+-- What tells the raced rules apart, found by scans over tokens.
+pub mod Fronts
+-- A short tree for each form, by which every state of reading begins a whole tree.
+pub mod Short
+-- What the steps of reading keep.
+pub mod Keeping
+-- From parts to whole texts.
+pub mod Texts

@@ -34,7 +34,9 @@ pub record Begins (items : List Token) (p : Part) (at room place : ℕ) (x : Opt
 
 -- the same where the part has a tree at all
 abbrev pub AllowedAt : List Token → Part → ℕ → ℕ → ℕ → Type 0
-AllowedAt items p at room place = (x : Option Kind) → may_stand_behind p x ≡ true → at ≤ length items → (n : Node) → Fits room (name_at items at) n p x → Begins items p at room place x
+AllowedAt items p at room place =
+    (x : Option Kind) → may_stand_behind p x ≡ true → at ≤ length items → (n : Node)
+    → Fits room (name_at items at) n p x → Begins items p at room place x
 
 -- the `::` here may begin the kind of a constructor in brackets, and that kind may come up to the place
 pub record MarksKind (items : List Token) (at : ℕ) (wants : List Want) (place : ℕ) : Type 0 where
@@ -47,7 +49,8 @@ pub record MarksKind (items : List Token) (at : ℕ) (wants : List Want) (place 
 -- another way of reading the part, which is tried beside, comes up to the place; in braces of a query `[` begins a tree
 abbrev pub Beside : List Token → Part → ℕ → ℕ → List Want → ℕ → Type 0
 Beside items (One f.Exp) room at wants place = (0 < room) × AllowedAt items (One f.Pat) at room place
-Beside items (One f.SqlBraceRest) room at wants place = (0 < room) × (first_kind (drop at items) ≡ Some k.LeftBracket) × (place ≡ suc at)
+Beside items (One f.SqlBraceRest) room at wants place =
+    (0 < room) × (first_kind (drop at items) ≡ Some k.LeftBracket) × (place ≡ suc at)
 Beside items (Maybe f.ConForall) room at wants place = MarksKind items at wants place
 Beside items _ room at wants place = ⊥
 
@@ -62,7 +65,8 @@ RefusedHere m Memory = Unit {0}
 
 -- the same after the other ways of reading the part were tried
 abbrev pub RefusesPart : List Token → Part → ℕ → Machine → Stop → Type 0
-RefusesPart items p room m (Refused place) = (far : ℕ) × Raised (Beside items p room m.at m.wants) m.far far × (place ≡ max m.at far)
+RefusesPart items p room m (Refused place) =
+    (far : ℕ) × Raised (Beside items p room m.at m.wants) m.far far × (place ≡ max m.at far)
 RefusesPart items p room m Memory = Unit {0}
 
 -- what stands before the refused token begins a tree

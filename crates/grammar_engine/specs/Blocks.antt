@@ -13,7 +13,9 @@ use Rattle.grammar_engine.specs.Rooms.{least_of}
 
 -- the next token can't be taken for the word: there is none, it doesn't stand for the word, or it has another name
 abbrev pub TakeBlocked : List Token → Kind → ℕ → ℕ → Stop → Type 0
-TakeBlocked items w tag at (Refused place) = (t : Token) (rest : List Token) → drop at items ≡ t ∷ rest → accept w t.kind ≡ true → (is_tag w ≡ true → t.content ≡ name_at items tag) → ⊥
+TakeBlocked items w tag at (Refused place) =
+    (t : Token) (rest : List Token) → drop at items ≡ t ∷ rest → accept w t.kind ≡ true
+    → (is_tag w ≡ true → t.content ≡ name_at items tag) → ⊥
 TakeBlocked items w tag at Memory = Unit {0}
 
 -- there is less room than the rule needs

@@ -51,10 +51,13 @@ abbrev mutual
 
   pub choices_each : Nodes → Form → Option Kind → List Mark
   choices_each none g x = if is_open g x then m.End ∷ [] else []
-  choices_each (more n ns) g x = (if is_open g (front (spell n ++ spell_all ns) x) then m.Item ∷ [] else []) ++ choices n (One g) (front (spell_all ns) x) ++ choices_each ns g x
+  choices_each (more n ns) g x =
+      (if is_open g (front (spell n ++ spell_all ns) x) then m.Item ∷ [] else [])
+      ++ choices n (One g) (front (spell_all ns) x) ++ choices_each ns g x
 
 -- one list of tokens begins with one tree for a part, and ends with one rest, up to the choices
 abbrev pub OneTree : Type 0
 OneTree = (p : Part) (n o : Node) (after behind : List Token) (room space : ℕ) (name other : Content)
-    → Fits room name n p (first_kind after) → Fits space other o p (first_kind behind) → spell n ++ after ≡ spell o ++ behind
+    → Fits room name n p (first_kind after) → Fits space other o p (first_kind behind)
+    → spell n ++ after ≡ spell o ++ behind
     → choices n p (first_kind after) ≡ choices o p (first_kind behind) → (n ≡ o) × (after ≡ behind)

@@ -18,7 +18,9 @@ byte_at ts place = first_at (drop place ts.items) ts.end
 -- the tokens before the refused one begin a tree; of TooDeep, a deeper one goes on with it
 abbrev pub FaultAllowed : Part → TokenList → ParseFault → Type 0
 FaultAllowed p ts (Syntax at) = (place : ℕ) × (at ≡ byte_at ts place) × Allows deepest p ts.items place
-FaultAllowed p ts (TooDeep at) = (place : ℕ) × (at ≡ byte_at ts place) × Allows deepest p ts.items place × ((room : ℕ) × GoesOn room p ts.items place)
+FaultAllowed p ts (TooDeep at) =
+    (place : ℕ) × (at ≡ byte_at ts place) × Allows deepest p ts.items place
+    × ((room : ℕ) × GoesOn room p ts.items place)
 FaultAllowed p ts Memory = Unit {0}
 
 -- some deeper tree goes on at the place

@@ -29,7 +29,9 @@ starts_single (q ∷ qs) x = if starts q x then starts_none qs x else starts_sin
 -- the tokens that begin a form are those that begin its rules, and each begins one rule of it alone, but in
 -- the two raced forms
 abbrev pub one_token_decides : Form → Kind → Bool
-one_token_decides g x = (if begins g (Some x) then not (starts_none (rules_of g) x) else starts_none (rules_of g) x) && (is_raced_form g || starts_single (rules_of g) x)
+one_token_decides g x =
+    (if begins g (Some x) then not (starts_none (rules_of g) x) else starts_none (rules_of g) x)
+    && (is_raced_form g || starts_single (rules_of g) x)
 
 -- the parts hold one that can't be left out, so that each tree has a token
 abbrev pub solid : List Part → Bool

@@ -13,7 +13,9 @@ abbrev mutual
   pub outer_in : (Form → Bool) → Node → Part → List Listing
   outer_in h (leaf t) p = []
   outer_in h (branch q ns) (Word w) = []
-  outer_in h (branch q ns) (One g) = if h g then record { leaves = spell_all ns; marks = m.Rule q ∷ marks_all ns } ∷ [] else outer_all h ns (body_of q)
+  outer_in h (branch q ns) (One g) =
+      if h g then record { leaves = spell_all ns; marks = m.Rule q ∷ marks_all ns } ∷ [] else outer_all h ns
+      (body_of q)
   outer_in h (branch q ns) (Many g) = []
   outer_in h (branch q ns) (Maybe g) = []
   outer_in h (several ns) (Word w) = []

@@ -53,7 +53,9 @@ pub record Expands (items : List Token) (g : Form) (room tag : ℕ) (a b : Machi
 
 -- a tree of the form is to be read, and then the rest; or there is none
 abbrev pub goes_by : Bool → Form → ℕ → ℕ → List Want → Machine → Machine → Type 0
-goes_by true g room tag rest a b = (b.wants ≡ record { part = One g; room = room; tag = tag } ∷ rest ++ a.wants) × (b.tree.marks ≡ a.tree.marks ++ m.Item ∷ [])
+goes_by true g room tag rest a b =
+    (b.wants ≡ record { part = One g; room = room; tag = tag } ∷ rest ++ a.wants)
+    × (b.tree.marks ≡ a.tree.marks ++ m.Item ∷ [])
 goes_by false g room tag rest a b = (b.wants ≡ a.wants) × (b.tree.marks ≡ a.tree.marks ++ m.End ∷ [])
 
 -- a repetition or an option goes on where the token begins its form, or ends where it doesn't have to go on
@@ -69,7 +71,8 @@ pub record Goes (items : List Token) (g : Form) (room tag : ℕ) (rest : List Wa
 abbrev pub MeetsPart : List Token → Part → ℕ → ℕ → Machine → Machine → Type 0
 MeetsPart items (Word w) room tag a b = Takes items w tag a b
 MeetsPart items (One g) room tag a b = Expands items g room tag a b
-MeetsPart items (Many g) room tag a b = Goes items g room tag (record { part = Many g; room = room; tag = tag } ∷ []) a b
+MeetsPart items (Many g) room tag a b =
+    Goes items g room tag (record { part = Many g; room = room; tag = tag } ∷ []) a b
 MeetsPart items (Maybe g) room tag a b = Goes items g room tag [] a b
 
 -- nothing but the farthest place of a refusal has changed

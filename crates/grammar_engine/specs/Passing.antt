@@ -55,20 +55,24 @@ pub record Through (items : List Token) (p : Part) (at room races place : ℕ) :
 
 -- no such tree goes on at the refused token
 abbrev pub StopsAll : List Token → Part → ℕ → ℕ → ℕ → Stop → Type 0
-StopsAll items p at room races (Refused place) = is_text_part p ≡ true → races_of p ≤ races → Through items p at room races place → ⊥
+StopsAll items p at room races (Refused place) =
+    is_text_part p ≡ true → races_of p ≤ races → Through items p at room races place → ⊥
 StopsAll items p at room races Memory = Unit {0}
 
--- the tree that was read is the only one that has the tokens up to where it ends and the one behind, and those that were looked at
+-- the tree that was read is the only one that has the tokens up to where it ends and the one behind, and those that
+-- were looked at
 abbrev pub SoleHere : List Token → Part → ℕ → ℕ → ℕ → Listing → ℕ → ℕ → Type 0
 SoleHere items p at room races tree behind far =
-    is_text_part p ≡ true → races_of p ≤ races → (t : Through items p at room races (max behind far)) → Lists tree t.node × (first_kind t.tail ≡ first_kind (drop behind items))
+    is_text_part p ≡ true → races_of p ≤ races → (t : Through items p at room races (max behind far))
+    → Lists tree t.node × (first_kind t.tail ≡ first_kind (drop behind items))
 
 -- trees for all that is to be read, of so many levels more than there is room for, with this token behind them
 abbrev pub FilledBy : ℕ → List Token → Nodes → List Want → Option Kind → Type 0
 FilledBy extra items none [] x = Unit {0}
 FilledBy extra items none (w ∷ ws) x = ⊥
 FilledBy extra items (more n ns) [] x = ⊥
-FilledBy extra items (more n ns) (w ∷ ws) x = Fits (w.room + extra) (name_at items w.tag) n w.part (front (spell_all ns) x) × FilledBy extra items ns ws x
+FilledBy extra items (more n ns) (w ∷ ws) x =
+    Fits (w.room + extra) (name_at items w.tag) n w.part (front (spell_all ns) x) × FilledBy extra items ns ws x
 
 -- a tree of the form and such a token behind it stand here, and end at the place or before it
 pub record WayOpen (items : List Token) (g : Form) (y : Kind) (at far : ℕ) : Type 0 where
@@ -84,16 +88,23 @@ pub record WayOpen (items : List Token) (g : Form) (y : Kind) (at far : ℕ) : T
 abbrev pub WayShut : List Token → Form → Kind → ℕ → ℕ → ℕ → ℕ → Type 0
 WayShut items g y at room races far = (t : Through items (One g) at room races far) → first_kind t.tail ≡ Some y → ⊥
 
--- what was seen beside tells the rule from the other that the token begins: of an expression, whether a pattern and `<-`
--- stand here; in braces of a query that begin with `[`, whether `]` is next. Without room a binding and a splice have no tree
+-- what was seen beside tells the rule from the other that the token begins: of an expression, whether a pattern and
+-- `<-`
+-- stand here; in braces of a query that begin with `[`, whether `]` is next. Without room a binding and a splice have
+-- no tree
 abbrev pub BindSure : List Token → Rule → ℕ → ℕ → ℕ → ℕ → Type 0
 BindSure items (r.Exp exp.ExpBind) room races at far = (0 < room) × WayOpen items f.Pat k.LeftArrow at far
-BindSure items (r.Exp exp.ExpPlain) room races at far = 0 < room → WayShut items f.Pat k.LeftArrow at room (races - 1) far
+BindSure items (r.Exp exp.ExpPlain) room races at far =
+    0 < room → WayShut items f.Pat k.LeftArrow at room (races - 1) far
 BindSure items _ room races at far = ⊥
 
 abbrev pub BraceSure : List Token → Rule → ℕ → ℕ → ℕ → Type 0
-BraceSure items (r.Sql sql.SqlSplice) room at far = (0 < room) × (first_kind (drop at items) ≡ Some k.LeftBracket) × (suc at ≤ far) × (first_kind (drop (suc at) items) ≡ Some k.RightBracket → ⊥)
-BraceSure items (r.Sql sql.SqlExp) room at far = 0 < room → first_kind (drop at items) ≡ Some k.LeftBracket → (suc at ≤ far) × (first_kind (drop (suc at) items) ≡ Some k.RightBracket)
+BraceSure items (r.Sql sql.SqlSplice) room at far =
+    (0 < room) × (first_kind (drop at items) ≡ Some k.LeftBracket) × (suc at ≤ far)
+    × (first_kind (drop (suc at) items) ≡ Some k.RightBracket → ⊥)
+BraceSure items (r.Sql sql.SqlExp) room at far =
+    0 < room → first_kind (drop at items) ≡ Some k.LeftBracket
+    → (suc at ≤ far) × (first_kind (drop (suc at) items) ≡ Some k.RightBracket)
 BraceSure items _ room at far = ⊥
 
 -- the rule by which reading goes on is that of each tree that goes on
@@ -104,11 +115,14 @@ RuleSure items g q room races at far = StartedBy (first_kind (drop at items)) q
 
 -- at `::` the option is left out where a kind and `)` stand there, and taken where none do, or no brackets end there
 abbrev pub MarkSure : Bool → List Token → ℕ → ℕ → List Want → ℕ → Type 0
-MarkSure true items races at wants far = (w : Want) → first_solid wants ≡ Some w → w.part ≡ One f.ConParenEnd → WayShut items f.KindTerm k.RightParenthesis (suc at) w.room (races - 1) far
+MarkSure true items races at wants far =
+    (w : Want) → first_solid wants ≡ Some w → w.part ≡ One f.ConParenEnd
+    → WayShut items f.KindTerm k.RightParenthesis (suc at) w.room (races - 1) far
 MarkSure false items races at wants far = WayOpen items f.KindTerm k.RightParenthesis (suc at) far
 
 abbrev pub OptionSure : Bool → List Token → Form → ℕ → ℕ → List Want → ℕ → Type 0
-OptionSure taken items g races at wants far = is_open g (first_kind (drop at items)) ≡ true → 1 ≤ races → MarkSure taken items races at wants far
+OptionSure taken items g races at wants far =
+    is_open g (first_kind (drop at items)) ≡ true → 1 ≤ races → MarkSure taken items races at wants far
 
 -- what was marked: a further tree, or the end
 abbrev pub Marked : Bool → Machine → Machine → Type 0
@@ -118,6 +132,8 @@ Marked false a b = b.tree.marks ≡ a.tree.marks ++ m.End ∷ []
 -- how reading went on is how each tree goes on that has the tokens through the farthest place
 abbrev pub Sure : List Token → Part → ℕ → ℕ → Machine → Machine → Type 0
 Sure items (Word w) room races a b = Unit {0}
-Sure items (One g) room races a b = (q : Rule) × (b.tree.marks ≡ a.tree.marks ++ m.Rule q ∷ []) × RuleSure items g q room races a.at b.far
+Sure items (One g) room races a b =
+    (q : Rule) × (b.tree.marks ≡ a.tree.marks ++ m.Rule q ∷ []) × RuleSure items g q room races a.at b.far
 Sure items (Many g) room races a b = Unit {0}
-Sure items (Maybe g) room races a b = (taken : Bool) × Marked taken a b × OptionSure taken items g races a.at a.wants b.far
+Sure items (Maybe g) room races a b =
+    (taken : Bool) × Marked taken a b × OptionSure taken items g races a.at a.wants b.far

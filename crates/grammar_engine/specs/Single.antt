@@ -34,7 +34,9 @@ names_itself (Maybe g) = not (holds_name g)
 
 -- two trees of a whole text that spell the same tokens are one
 abbrev pub OneWholeTree : Type 0
-OneWholeTree = (p : Part) (n o : Node) (room space : ℕ) → is_text_part p ≡ true → Whole room p n → Whole space p o → spell n ≡ spell o → n ≡ o
+OneWholeTree =
+    (p : Part) (n o : Node) (room space : ℕ) → is_text_part p ≡ true → Whole room p n → Whole space p o
+    → spell n ≡ spell o → n ≡ o
 
 -- each tree of the whole text, however deep, is the one that the tree of the code lists
 abbrev pub OnlyTree : Part → List Token → Listing → Type 0

@@ -29,8 +29,13 @@ use Rattle.grammar_engine.specs.Rooms.{least_of}
 -- the part can't begin with the next token: it is a word for which the token doesn't stand, or a form that the token
 -- doesn't begin, or for whose one rule there is no room; a repetition and an option never stand in the way
 abbrev pub Blocked : List Token → Part → ℕ → ℕ → ℕ → Type 0
-Blocked items (Word w) room tag at = (t : Token) (rest : List Token) → drop at items ≡ t ∷ rest → accept w t.kind ≡ true → (is_tag w ≡ true → t.content ≡ name_at items tag) → ⊥
-Blocked items (One g) room tag at = (begins g (first_kind (drop at items)) ≡ false) ⊎ ((q : Rule) × Chosen g (first_kind (drop at items)) q × StartedBy (first_kind (drop at items)) q × (is_raced_form g ≡ false) × (room < least_of q))
+Blocked items (Word w) room tag at =
+    (t : Token) (rest : List Token) → drop at items ≡ t ∷ rest → accept w t.kind ≡ true
+    → (is_tag w ≡ true → t.content ≡ name_at items tag) → ⊥
+Blocked items (One g) room tag at =
+    (begins g (first_kind (drop at items)) ≡ false)
+    ⊎ ((q : Rule) × Chosen g (first_kind (drop at items)) q × StartedBy (first_kind (drop at items)) q
+    × (is_raced_form g ≡ false) × (room < least_of q))
 Blocked items (Many g) room tag at = ⊥
 Blocked items (Maybe g) room tag at = ⊥
 
@@ -68,6 +73,8 @@ StopsWhole items p room Memory = Unit {0}
 
 -- a whole text is refused only for such a reason
 abbrev pub FaultStuck : Part → TokenList → ParseFault → Type 0
-FaultStuck p ts (Syntax at) = (place : ℕ) × (at ≡ byte_at ts place) × (Stuck ts.items p 0 deepest place ⊎ LeftOver ts.items p deepest place)
-FaultStuck p ts (TooDeep at) = (place : ℕ) × (at ≡ byte_at ts place) × (Stuck ts.items p 0 deepest place ⊎ LeftOver ts.items p deepest place)
+FaultStuck p ts (Syntax at) =
+    (place : ℕ) × (at ≡ byte_at ts place) × (Stuck ts.items p 0 deepest place ⊎ LeftOver ts.items p deepest place)
+FaultStuck p ts (TooDeep at) =
+    (place : ℕ) × (at ≡ byte_at ts place) × (Stuck ts.items p 0 deepest place ⊎ LeftOver ts.items p deepest place)
 FaultStuck p ts _ = Unit {0}

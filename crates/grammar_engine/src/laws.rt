@@ -5,6 +5,7 @@ ghost use Rattle.surface_grammar.specs.declared.form.Form.{Form};
 ghost use Rattle.grammar_engine.specs.Choices.{OneTree};
 ghost use Rattle.grammar_engine.specs.Exact.{OneRefusal, TreesAreNotRefused};
 ghost use Rattle.grammar_engine.specs.Laws.{one_token_decides};
+ghost use Rattle.grammar_engine.specs.Reads.{ReadWithMore};
 ghost use Rattle.grammar_engine.specs.Single.{OneWholeTree};
 
 /// The table is one in which a token decides: it begins a form exactly where it begins a rule of
@@ -32,4 +33,10 @@ pub fn one_refusal()
 /// A text with a tree has no refusal.
 pub fn trees_are_not_refused()
     ensures { TreesAreNotRefused }
+{}
+
+/// A tree that is read with little room is the longest with more: so a reader that leaves parts
+/// with all the room that can be counted takes what was read within 200 levels.
+pub fn little_room_is_enough()
+    ensures { ReadWithMore }
 {}

@@ -5,11 +5,10 @@ pub mod laws;
 pub mod machine;
 pub mod read;
 pub mod stop;
-#[cfg(test)]
-mod tests;
 pub mod tokens;
 pub mod want;
 
 pub use machine::Machine;
+pub use read::{Reading, read_part, read_whole};
 pub use stop::Stop;
 pub use want::{Want, Wants};

@@ -188,7 +188,9 @@ impl Machine {
         room: u64,
         tag: usize,
     ) -> Result<(), AllocError>
-        ensures goes { OnOk result (Goes tokens.now.items form room tag (record { part = Part.Many form; room = room; tag = tag } ∷ []) self.old self.new) }
+        ensures goes { OnOk result
+            (Goes tokens.now.items form room tag
+            (record { part = Part.Many form; room = room; tag = tag } ∷ []) self.old self.new) }
         ensures far { self.new.far ≡ self.old.far }
     {
         if form.begins(kind_at(tokens, self.at)) {

@@ -24,7 +24,7 @@ use surface_tree::{Kind, Tokens};
 
 /// A way of reading that may be open: a tree of the form begins at the place, and such a token
 /// stands behind it.
-#[derive(Clone, Copy, Debug)]
+#[derive(Clone, Copy)]
 struct Way {
     form: Form,
     start: usize,
@@ -42,9 +42,10 @@ pub struct Reading {
 
 /// Reads the longest tree for the part that begins at the place and is at most so many levels
 /// deep, and tells the place behind it. Where one token doesn't decide between two rules of a form,
-/// it tries the first of them beforehand, at most `races` times within each other; 2 are enough for
-/// the grammar. No other tree has the tokens up to the one behind it and to the farthest that was
-/// looked at, and where a token is refused, no tree has it.
+/// it tries the first of them beforehand, at most `races` times within each other. With at least
+/// two races (for a pattern one, for a kind none) no other tree has the tokens up to the one behind
+/// it and to the farthest that was looked at, and where a token is refused, no tree has it: `sole`
+/// and `ends` ask for so many.
 #[cycle(read)]
 pub fn read_part(
     alloc: Global,
@@ -83,7 +84,9 @@ fn meet(
     races: u32,
 ) -> Result<(), Stop>
     ensures meets { OnOk result (MeetsPart tokens.now.items want.part want.room want.tag machine.old machine.new) }
-    ensures raised { OnOk result (Raised (Beside tokens.now.items want.part want.room machine.old.at machine.old.wants) machine.old.far machine.new.far) }
+    ensures raised { OnOk result
+        (Raised (Beside tokens.now.items want.part want.room machine.old.at machine.old.wants)
+        machine.old.far machine.new.far) }
     ensures refused { IfErr result (RefusesPart tokens.now.items want.part want.room machine.old) }
     ensures blocked { IfErr result (MeetsBlocked tokens.now.items want.part want.room want.tag machine.old.at) }
     ensures sure { OnOk result (Sure tokens.now.items want.part want.room races machine.old machine.new) }
@@ -114,11 +117,15 @@ fn pick(
 ) -> Result<Rule, Stop>
     ensures chosen { IfOk result (λ q. Chosen form (first_kind (drop machine.old.at tokens.now.items)) q) }
     ensures kept { OnOk result (Kept machine.old machine.new) }
-    ensures raised { OnOk result (Raised (Beside tokens.now.items (Part.One form) room machine.old.at machine.old.wants) machine.old.far machine.new.far) }
+    ensures raised { OnOk result
+        (Raised
+        (Beside tokens.now.items
+        (Part.One form) room machine.old.at machine.old.wants) machine.old.far machine.new.far) }
     ensures refused { IfErr result (RefusesPart tokens.now.items (Part.One form) room machine.old) }
     ensures blocked { IfErr result (MeetsBlocked tokens.now.items (Part.One form) room 0 machine.old.at) }
     ensures sure { IfOk result (λ q. RuleSure tokens.now.items form q room races machine.old.at machine.new.far) }
-    ensures starts { IfOk result (λ q. is_raced_form form ≡ false → StartedBy (first_kind (drop machine.old.at tokens.now.items)) q) }
+    ensures starts { IfOk result
+        (λ q. is_raced_form form ≡ false → StartedBy (first_kind (drop machine.old.at tokens.now.items)) q) }
     ensures roomy { IfOk result (λ q. is_raced_form form ≡ true → least_of q ≤ room) }
 {
     match form {
@@ -141,10 +148,14 @@ fn pick(
 /// Whether braces in a query begin with `[` that isn't the empty list: a splice. Where `[` stands, the token behind
 /// it has been looked at. Without room neither has a tree.
 pub fn is_splice(machine: &mut Machine, tokens: &Tokens, room: u64) -> bool
-    ensures splice { IsTrue result → BraceSure tokens.now.items (Rule.Sql SqlRule.SqlSplice) room machine.old.at machine.new.far }
-    ensures other { IsFalse result → BraceSure tokens.now.items (Rule.Sql SqlRule.SqlExp) room machine.old.at machine.new.far }
+    ensures splice { IsTrue result
+        → BraceSure tokens.now.items (Rule.Sql SqlRule.SqlSplice) room machine.old.at machine.new.far }
+    ensures other { IsFalse result
+        → BraceSure tokens.now.items (Rule.Sql SqlRule.SqlExp) room machine.old.at machine.new.far }
     ensures kept { Kept machine.old machine.new }
-    ensures raised { Raised (Beside tokens.now.items (Part.One Form.SqlBraceRest) room machine.old.at machine.old.wants) machine.old.far machine.new.far }
+    ensures raised { Raised
+        (Beside tokens.now.items
+        (Part.One Form.SqlBraceRest) room machine.old.at machine.old.wants) machine.old.far machine.new.far }
 {
     if room == 0 || machine.at >= tokens.len() {
         return false;
@@ -168,9 +179,16 @@ fn is_bind(
     races: u32,
 ) -> Result<bool, AllocError>
     ensures kept { OnOk result (Kept machine.old machine.new) }
-    ensures raised { OnOk result (Raised (Beside tokens.now.items (Part.One Form.Exp) room machine.old.at machine.old.wants) machine.old.far machine.new.far) }
-    ensures bind { IfOk result (λ stands. IsTrue stands → 2 ≤ races → BindSure tokens.now.items (Rule.Exp ExpRule.ExpBind) room races machine.old.at machine.new.far) }
-    ensures other { IfOk result (λ stands. IsFalse stands → 2 ≤ races → BindSure tokens.now.items (Rule.Exp ExpRule.ExpPlain) room races machine.old.at machine.new.far) }
+    ensures raised { OnOk result
+        (Raised
+        (Beside tokens.now.items
+        (Part.One Form.Exp) room machine.old.at machine.old.wants) machine.old.far machine.new.far) }
+    ensures bind { IfOk result
+        (λ stands. IsTrue stands → 2 ≤ races
+        → BindSure tokens.now.items (Rule.Exp ExpRule.ExpBind) room races machine.old.at machine.new.far) }
+    ensures other { IfOk result
+        (λ stands. IsFalse stands → 2 ≤ races
+        → BindSure tokens.now.items (Rule.Exp ExpRule.ExpPlain) room races machine.old.at machine.new.far) }
     ensures roomy { IfOk result (λ stands. IsTrue stands → 0 < room) }
 {
     if room == 0 {
@@ -193,11 +211,18 @@ fn goes_on(
     form: Form,
     races: u32,
 ) -> Result<bool, AllocError>
-    ensures ended { IfOk result (λ taken. taken ≡ false → must_go_on form (first_kind (drop machine.old.at tokens.now.items)) ≡ false) }
-    ensures begun { IfOk result (λ taken. taken ≡ true → begins form (first_kind (drop machine.old.at tokens.now.items)) ≡ true) }
-    ensures sure { IfOk result (λ taken. is_open form (first_kind (drop machine.old.at tokens.now.items)) ≡ true → 1 ≤ races → MarkSure taken tokens.now.items races machine.old.at machine.old.wants machine.new.far) }
+    ensures ended { IfOk result
+        (λ taken. taken ≡ false → must_go_on form (first_kind (drop machine.old.at tokens.now.items)) ≡ false) }
+    ensures begun { IfOk result
+        (λ taken. taken ≡ true → begins form (first_kind (drop machine.old.at tokens.now.items)) ≡ true) }
+    ensures sure { IfOk result
+        (λ taken. is_open form (first_kind (drop machine.old.at tokens.now.items)) ≡ true → 1 ≤ races
+        → MarkSure taken tokens.now.items races machine.old.at machine.old.wants machine.new.far) }
     ensures kept { OnOk result (Kept machine.old machine.new) }
-    ensures raised { OnOk result (Raised (Beside tokens.now.items (Part.Maybe form) 0 machine.old.at machine.old.wants) machine.old.far machine.new.far) }
+    ensures raised { OnOk result
+        (Raised
+        (Beside tokens.now.items
+        (Part.Maybe form) 0 machine.old.at machine.old.wants) machine.old.far machine.new.far) }
 {
     let next = kind_at(tokens, machine.at);
     match (form, next) {
@@ -219,9 +244,16 @@ fn is_kind_mark(
 ) -> Result<bool, AllocError>
     requires { first_kind (drop machine.old.at tokens.now.items) ≡ Some Kind.DoubleColon }
     ensures kept { OnOk result (Kept machine.old machine.new) }
-    ensures raised { OnOk result (Raised (Beside tokens.now.items (Part.Maybe Form.ConForall) 0 machine.old.at machine.old.wants) machine.old.far machine.new.far) }
-    ensures mark { IfOk result (λ mark. IsTrue mark → 1 ≤ races → MarkSure false tokens.now.items races machine.old.at machine.old.wants machine.new.far) }
-    ensures other { IfOk result (λ mark. IsFalse mark → 1 ≤ races → MarkSure true tokens.now.items races machine.old.at machine.old.wants machine.new.far) }
+    ensures raised { OnOk result
+        (Raised
+        (Beside tokens.now.items
+        (Part.Maybe Form.ConForall) 0 machine.old.at machine.old.wants) machine.old.far machine.new.far) }
+    ensures mark { IfOk result
+        (λ mark. IsTrue mark → 1 ≤ races
+        → MarkSure false tokens.now.items races machine.old.at machine.old.wants machine.new.far) }
+    ensures other { IfOk result
+        (λ mark. IsFalse mark → 1 ≤ races
+        → MarkSure true tokens.now.items races machine.old.at machine.old.wants machine.new.far) }
 {
     if machine.at >= tokens.len() {
         return Ok(false);
@@ -256,9 +288,13 @@ fn try_way(
     races: u32,
 ) -> Result<bool, AllocError>
     ensures kept { OnOk result (Kept machine.old machine.new) }
-    ensures raised { OnOk result (Raised (AllowedAt tokens.now.items (Part.One way.form) way.start room) machine.old.far machine.new.far) }
-    ensures stands { IfOk result (λ stands. IsTrue stands → WayOpen tokens.now.items way.form way.behind way.start machine.new.far) }
-    ensures shut { IfOk result (λ stands. IsFalse stands → races_of (Part.One way.form) < races → WayShut tokens.now.items way.form way.behind way.start room (races - 1) machine.new.far) }
+    ensures raised { OnOk result
+        (Raised (AllowedAt tokens.now.items (Part.One way.form) way.start room) machine.old.far machine.new.far) }
+    ensures stands { IfOk result
+        (λ stands. IsTrue stands → WayOpen tokens.now.items way.form way.behind way.start machine.new.far) }
+    ensures shut { IfOk result
+        (λ stands. IsFalse stands → races_of (Part.One way.form) < races
+        → WayShut tokens.now.items way.form way.behind way.start room (races - 1) machine.new.far) }
 {
     if races == 0 {
         return Ok(false);
@@ -341,7 +377,8 @@ pub fn read_whole(alloc: Global, tokens: &Tokens, part: Part) -> Result<Tree, Pa
     ensures allowed { IfErr result (FaultAllowed part tokens.now) }
     ensures stuck { IfErr result (FaultStuck part tokens.now) }
     ensures exact { IsSource part → IfErr result (FaultExact part tokens.now) }
-    ensures complete { IsSource part → (n : Node) → Whole deepest part n → spell n ≡ tokens.now.items → IsOkUnless result ParseFault.Memory }
+    ensures complete { IsSource part → (n : Node) → Whole deepest part n → spell n ≡ tokens.now.items
+        → IsOkUnless result ParseFault.Memory }
 {
     let place = match read_all(alloc, tokens, part, DEEPEST) {
         Ok(tree) => return Ok(tree),

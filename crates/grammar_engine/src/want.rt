@@ -8,7 +8,7 @@ use surface_grammar::Part;
 
 /// A part that is still to be read, how many levels deep its tree may be, and the place of the
 /// token whose name the innermost element around it has.
-#[derive(Clone, Copy, Debug)]
+#[derive(Clone, Copy)]
 pub struct Want {
     pub part: Part,
     pub room: u64,

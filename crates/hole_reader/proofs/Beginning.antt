@@ -26,19 +26,19 @@ use Rattle.grammar_engine.specs.Growing.{Filled, Grows}
 use Rattle.grammar_engine.specs.Leaving.{outer_all}
 use Rattle.grammar_engine.specs.Moves.{MeetsPart}
 use Rattle.grammar_engine.specs.Places.{name_at}
-use Rattle.grammar_engine.proofs.Allowing.{Ready, inside, token_at, begins_at, among_none}
-use Rattle.grammar_engine.proofs.Calm.{nexts, behind, calm, shortest, fill_wants, parts_of, and_both}
-use Rattle.grammar_engine.proofs.Filling.{short, short_fits, front_wants, filled}
-use Rattle.grammar_engine.proofs.Going.{goes_at}
-use Rattle.grammar_engine.proofs.Leading.{node_led}
-use Rattle.grammar_engine.proofs.Passed.{want}
-use Rattle.grammar_engine.proofs.Ranks.{and_left, and_right, every}
-use Rattle.grammar_engine.proofs.Readies.{first_quiet, ready_meets, roomy_tail}
+use Rattle.grammar_engine.proofs.Keeping.Allowing.{Ready, inside, token_at, begins_at, among_none}
+use Rattle.grammar_engine.proofs.Short.Calm.{nexts, behind, calm, shortest, fill_wants, parts_of, and_both}
+use Rattle.grammar_engine.proofs.Short.Filling.{short, short_fits, front_wants, filled}
+use Rattle.grammar_engine.proofs.Keeping.Going.{goes_at}
+use Rattle.grammar_engine.proofs.Trees.Leading.{node_led}
+use Rattle.grammar_engine.proofs.Keeping.Passed.{want}
+use Rattle.grammar_engine.proofs.Keeping.Readies.{first_quiet, ready_meets, roomy_tail}
 use Rattle.hole_reader.specs.Holes.{form_of, is_hole, holes_in}
 use Rattle.hole_reader.specs.Progress.{Comes, Looked, ReadsWant}
 use Rattle.hole_reader.specs.Progress.Comes.{begun, met, took}
 use Rattle.hole_reader.proofs.Following.{refollow}
 use Rattle.hole_reader.proofs.Growing.{Grown, comes_grown, comes_read, outer_filling, hole_renamed}
+use Rattle.grammar_engine.proofs.Bools.{and_left, and_right, every}
 
 -- a tree with the trees handed in, and with such a token behind it, begins with the tokens before the place
 pub record Fronted (items : List Token) (whole : Want) (handed : List Listing) (place : ℕ) (x : Option Kind) : Type 0 where

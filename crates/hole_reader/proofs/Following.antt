@@ -9,11 +9,11 @@ use Rattle.surface_grammar.specs.declared.part.Part.TheVariants.{Word, One, Many
 use Rattle.surface_grammar.specs.Sides.{bars_of}
 use Rattle.surface_grammar.specs.Table.{body_of}
 use Rattle.surface_grammar.specs.Trees.{Node, leaf, branch, several, absent, present, Nodes, none, more, spell, spell_all, front, among, must_go_on, Fits, FitsAll, FitsEach}
-use Rattle.grammar_engine.proofs.Calm.{nexts, follows, behind, calm, not_true, calm_some}
-use Rattle.grammar_engine.proofs.Decided.{rule_solid}
-use Rattle.grammar_engine.proofs.Filling.{rule_calm, follows_one}
-use Rattle.grammar_engine.proofs.Leading.{node_led, nodes_led}
-use Rattle.grammar_engine.proofs.Ranks.{and_left, and_right, every}
+use Rattle.grammar_engine.proofs.Short.Calm.{nexts, follows, behind, calm, not_true, calm_some}
+use Rattle.grammar_engine.proofs.Table.Decided.{rule_solid}
+use Rattle.grammar_engine.proofs.Short.Filling.{rule_calm, follows_one}
+use Rattle.grammar_engine.proofs.Trees.Leading.{node_led, nodes_led}
+use Rattle.grammar_engine.proofs.Bools.{and_left, and_right, every}
 
 right_empty : (a b : List Token) → a ++ b ≡ [] → b ≡ []
 right_empty [] b e = e

@@ -22,15 +22,15 @@ use Rattle.grammar_engine.specs.Growing.{Filled}
 use Rattle.grammar_engine.specs.Leaving.{outer_in, outer_all, outer_each}
 use Rattle.grammar_engine.specs.Moves.{wants_of, goes_by, MeetsPart}
 use Rattle.grammar_engine.specs.Places.{name_at}
-use Rattle.grammar_engine.proofs.Calm.{parts_of}
-use Rattle.grammar_engine.proofs.Grown.{front_append}
-use Rattle.grammar_engine.proofs.Grows.{read_meets}
-use Rattle.grammar_engine.proofs.Going.{come_meets}
+use Rattle.grammar_engine.proofs.Short.Calm.{parts_of}
+use Rattle.grammar_engine.proofs.Keeping.Grown.{front_append}
+use Rattle.grammar_engine.proofs.Keeping.Grows.{read_meets}
+use Rattle.grammar_engine.proofs.Keeping.Going.{come_meets}
 use Rattle.grammar_engine.specs.Single.{names_itself}
-use Rattle.grammar_engine.proofs.Naming.{rename_any}
-use Rattle.grammar_engine.proofs.Passed.{want}
-use Rattle.grammar_engine.proofs.Steps.{joined, joined_spell, joined_marks, rule_outer}
-use Rattle.grammar_engine.proofs.Unique.{front_kind}
+use Rattle.grammar_engine.proofs.Table.Naming.{rename_any}
+use Rattle.grammar_engine.proofs.Keeping.Passed.{want}
+use Rattle.grammar_engine.proofs.Keeping.Steps.{joined, joined_spell, joined_marks, rule_outer}
+use Rattle.grammar_engine.proofs.Trees.Unique.{front_kind}
 use Rattle.hole_reader.specs.Holes.{hole_of, form_of, is_hole, holes_in}
 use Rattle.hole_reader.specs.Progress.{Comes, ReadsWant}
 use Rattle.hole_reader.specs.Progress.Comes.{begun, met, took}

@@ -22,18 +22,19 @@ use Rattle.grammar_engine.specs.Leaving.{outer_all}
 use Rattle.grammar_engine.specs.Moves.{MeetsPart}
 use Rattle.grammar_engine.specs.Passing.{Agrees, FilledBy, RuleSure, Sure}
 use Rattle.grammar_engine.specs.Places.{name_at}
-use Rattle.grammar_engine.proofs.Agreeing.{kinds_same, agrees_less, agrees_next}
-use Rattle.grammar_engine.proofs.Calm.{parts_of}
-use Rattle.grammar_engine.proofs.Going.{goes_at, marks_same, rules_same, rest_agrees, step_goes}
-use Rattle.grammar_engine.proofs.Passed.{want, Stepped, SkipsPart}
-use Rattle.grammar_engine.proofs.Racing.{brace_same}
-use Rattle.grammar_engine.proofs.Steps.{step_word, step_rule, step_many, step_maybe, begun_rule, one_started, form_begins, closed, not_open, clash}
-use Rattle.grammar_engine.proofs.Unique.{front_kind}
+use Rattle.grammar_engine.proofs.Keeping.Agreeing.{kinds_same, agrees_less, agrees_next}
+use Rattle.grammar_engine.proofs.Short.Calm.{parts_of}
+use Rattle.grammar_engine.proofs.Keeping.Going.{goes_at, marks_same, rules_same, rest_agrees, step_goes}
+use Rattle.grammar_engine.proofs.Keeping.Passed.{want, Stepped, SkipsPart}
+use Rattle.grammar_engine.proofs.Keeping.Racing.{brace_same}
+use Rattle.grammar_engine.proofs.Keeping.Steps.{step_word, step_rule, step_many, step_maybe, begun_rule, one_started, form_begins, closed, not_open}
+use Rattle.grammar_engine.proofs.Trees.Unique.{front_kind}
 use Rattle.hole_reader.specs.Holes.{hole_of, form_of, is_hole, holes_in, is_open_part}
 use Rattle.hole_reader.specs.Progress.{Comes, Counted, Looked, ReadsWant}
 use Rattle.hole_reader.specs.Progress.Comes.{begun, met, took}
 use Rattle.hole_reader.proofs.Growing.{comes_place, comes_read, no_hole, outer_own}
 use Rattle.hole_reader.proofs.Shut.{all_shut, comes_shut, many_shut, maybe_shut}
+use Rattle.grammar_engine.proofs.Bools.{clash}
 
 -- trees for what is to be read, which make up the tree with what was read; its other expressions and constructors are theirs
 pub record Passed (extra : ℕ) (items : List Token) (node : Node) (tail leaves : List Token) (later : List Listing) (ws : List Want) : Type 0 where

@@ -13,14 +13,14 @@ use Rattle.surface_grammar.specs.Trees.{IsIn}
 use Rattle.grammar_engine.specs.declared.machine.Machine.{Machine}
 use Rattle.grammar_engine.specs.declared.want.Want.{Want}
 use Rattle.grammar_engine.specs.Moves.{goes_by, MeetsPart}
-use Rattle.grammar_engine.proofs.Calm.{and_both, parts_of}
-use Rattle.grammar_engine.proofs.Passed.{want}
-use Rattle.grammar_engine.proofs.Ranks.{and_left, and_right, every, every_in}
-use Rattle.grammar_engine.proofs.Readies.{parts_append}
+use Rattle.grammar_engine.proofs.Short.Calm.{and_both, parts_of}
+use Rattle.grammar_engine.proofs.Keeping.Passed.{want}
+use Rattle.grammar_engine.proofs.Keeping.Readies.{parts_append}
 use Rattle.hole_reader.specs.Holes.{hole_of, is_hole, is_open_part}
 use Rattle.hole_reader.specs.Progress.{Comes}
 use Rattle.hole_reader.specs.Progress.Comes.{begun, met, took}
 use Rattle.hole_reader.proofs.Growing.{no_hole}
+use Rattle.grammar_engine.proofs.Bools.{and_left, and_right, every, every_in}
 
 abbrev pub all_shut : List Part → Bool
 all_shut [] = true
@@ -32,158 +32,7 @@ is_shut q = all_shut (body_of q)
 -- computed
 every_shut : (g : Form) → (is_hole g || every is_shut (rules_of g)) ≡ true
 every_shut f.KindTerm = refl
-every_shut f.KindArrow = refl
-every_shut f.KindAtom = refl
-every_shut f.KindTimes = refl
-every_shut f.KindMark = refl
-every_shut f.Con = refl
-every_shut f.ConForall = refl
-every_shut f.ConArrow = refl
-every_shut f.ConProduct = refl
-every_shut f.ConTimes = refl
-every_shut f.ConSum = refl
-every_shut f.ConConcat = refl
-every_shut f.ConApply = refl
-every_shut f.ConTerm = refl
-every_shut f.ConDollar = refl
-every_shut f.ConPrimary = refl
-every_shut f.ConIndex = refl
-every_shut f.ConAtom = refl
-every_shut f.HashName = refl
-every_shut f.ConParenRest = refl
-every_shut f.ConParenEnd = refl
-every_shut f.ConComma = refl
-every_shut f.ConFieldTypes = refl
-every_shut f.ConFieldMore = refl
-every_shut f.ConRowFields = refl
-every_shut f.ConFieldValue = refl
-every_shut f.ConRowMore = refl
-every_shut f.FieldName = refl
-every_shut f.Path = refl
-every_shut f.UpperDot = refl
-every_shut f.BracketOpen = refl
-every_shut f.BracketRest = refl
-every_shut f.BracketFields = refl
-every_shut f.BracketNameRest = refl
-every_shut f.BracketUpperRest = refl
-every_shut f.BracketHashRest = refl
-every_shut f.GuardSides = refl
-every_shut f.NameSides = refl
-every_shut f.PathSides = refl
-every_shut f.IntSides = refl
-every_shut f.Pat = refl
-every_shut f.PatCons = refl
-every_shut f.PatTerm = refl
-every_shut f.PatAtom = refl
-every_shut f.UpperPath = refl
-every_shut f.DotUpper = refl
-every_shut f.PatParenRest = refl
-every_shut f.PatParenEnd = refl
-every_shut f.PatComma = refl
-every_shut f.PatRecordRest = refl
-every_shut f.PatFieldMore = refl
-every_shut f.PatFieldNext = refl
-every_shut f.Arg = refl
-every_shut f.ArgBracketRest = refl
-every_shut f.ArgLowerRest = refl
-every_shut f.Exp = refl
-every_shut f.ExpBindRest = refl
-every_shut f.ExpThen = refl
-every_shut f.Term = refl
-every_shut f.CaseBar = refl
-every_shut f.CaseMore = refl
-every_shut f.Body = refl
-every_shut f.Or = refl
-every_shut f.OrMore = refl
-every_shut f.And = refl
-every_shut f.AndMore = refl
-every_shut f.Compare = refl
-every_shut f.CompareMore = refl
-every_shut f.Cons = refl
-every_shut f.ConsMore = refl
-every_shut f.Join = refl
-every_shut f.JoinMore = refl
-every_shut f.Sum = refl
-every_shut f.SumMore = refl
-every_shut f.Product = refl
-every_shut f.ProductMore = refl
-every_shut f.Sign = refl
-every_shut f.Cut = refl
-every_shut f.CutMore = refl
-every_shut f.Apply = refl
-every_shut f.Argument = refl
-every_shut f.ArgumentRest = refl
-every_shut f.Atom = refl
-every_shut f.Operand = refl
-every_shut f.Dot = refl
-every_shut f.Primary = refl
-every_shut f.AnyName = refl
-every_shut f.ParenRest = refl
-every_shut f.ParenEnd = refl
-every_shut f.ExpComma = refl
-every_shut f.ExpFields = refl
-every_shut f.ExpFieldMore = refl
-every_shut f.Node = refl
-every_shut f.NodeBraceRest = refl
-every_shut f.Splice = refl
-every_shut f.TagName = refl
-every_shut f.ElementEnd = refl
-every_shut f.Attribute = refl
-every_shut f.AttributeValue = refl
-every_shut f.Decl = refl
-every_shut f.LetDecl = refl
-every_shut f.ValRest = refl
-every_shut f.RecMore = refl
-every_shut f.FunMore = refl
-every_shut f.TypeMark = refl
-every_shut f.Parameter = refl
-every_shut f.Constructor = refl
-every_shut f.ConstructorOf = refl
-every_shut f.ConstructorMore = refl
-every_shut f.KeyMark = refl
-every_shut f.KeyColumns = refl
-every_shut f.ColumnList = refl
-every_shut f.ColumnMore = refl
-every_shut f.InterfaceItem = refl
-every_shut f.Sql = refl
-every_shut f.Where = refl
-every_shut f.OrderBy = refl
-every_shut f.Limit = refl
-every_shut f.Offset = refl
-every_shut f.ValueList = refl
-every_shut f.ValueMore = refl
-every_shut f.Assignment = refl
-every_shut f.AssignmentMore = refl
-every_shut f.Selection = refl
-every_shut f.ItemMore = refl
-every_shut f.Item = refl
-every_shut f.ItemUpperRest = refl
-every_shut f.ItemDot = refl
-every_shut f.ItemBracesRow = refl
-every_shut f.ItemNamed = refl
-every_shut f.Source = refl
-every_shut f.SourceMore = refl
-every_shut f.AsMark = refl
-every_shut f.TableRef = refl
-every_shut f.TableBraces = refl
-every_shut f.TableBracesExp = refl
-every_shut f.Order = refl
-every_shut f.Direction = refl
-every_shut f.OrderMore = refl
-every_shut f.Count = refl
-every_shut f.SqlOr = refl
-every_shut f.SqlOrMore = refl
-every_shut f.SqlAnd = refl
-every_shut f.SqlAndMore = refl
-every_shut f.SqlNot = refl
-every_shut f.SqlCompare = refl
-every_shut f.SqlCompareMore = refl
-every_shut f.SqlSum = refl
-every_shut f.SqlSumMore = refl
-every_shut f.SqlProduct = refl
-every_shut f.SqlProductMore = refl
-every_shut f.SqlTerm = refl
-every_shut f.SqlBraceRest = refl
+every_shut _ = refl
 
 or_false : (a b : Bool) → (a || b) ≡ true → a ≡ false → b ≡ true
 or_false true b h e = cc

@@ -18,14 +18,14 @@ use Rattle.grammar_engine.specs.Allowed.{may_stand_behind, Beside, Raised, Refus
 use Rattle.grammar_engine.specs.Passing.{FilledBy}
 use Rattle.grammar_engine.specs.Places.{name_at}
 use Rattle.grammar_engine.specs.Stuck.{Blocked, MeetsBlocked}
-use Rattle.grammar_engine.proofs.Agreeing.{agrees_less, agrees_next}
-use Rattle.grammar_engine.proofs.Calm.{fill_part, shortest}
-use Rattle.grammar_engine.proofs.Going.{raised_far, rest_agrees}
-use Rattle.grammar_engine.proofs.Passed.{want}
-use Rattle.grammar_engine.proofs.Roomier.{fits_in}
-use Rattle.grammar_engine.proofs.Steps.{blocked_none}
-use Rattle.grammar_engine.proofs.Unique.{front_kind}
-use Rattle.grammar_engine.proofs.Whole.{exists}
+use Rattle.grammar_engine.proofs.Keeping.Agreeing.{agrees_less, agrees_next}
+use Rattle.grammar_engine.proofs.Short.Calm.{fill_part, shortest}
+use Rattle.grammar_engine.proofs.Keeping.Going.{raised_far, rest_agrees, no_nodes}
+use Rattle.grammar_engine.proofs.Keeping.Passed.{want}
+use Rattle.grammar_engine.proofs.Trees.Roomier.{fits_in}
+use Rattle.grammar_engine.proofs.Keeping.Steps.{blocked_none}
+use Rattle.grammar_engine.proofs.Trees.Unique.{front_kind}
+use Rattle.grammar_engine.proofs.Short.Whole.{exists}
 use Rattle.hole_reader.specs.Holes.{hole_of, form_of, is_open_part}
 use Rattle.hole_reader.specs.Progress.{Comes}
 use Rattle.hole_reader.specs.Readers.{NoneLonger}
@@ -146,10 +146,6 @@ stop_asked items whole handed hole w m (Refused place) comes form (lacks, is) = 
   ends = hole_goes items whole handed hole w m.wants m.at m.far place m.tree comes (omega (arith, is)) form lacks;
 }
 stop_asked items whole handed hole w m Memory comes form u = tt
-
-no_nodes : (extra : ℕ) (items : List Token) (nodes : Nodes) (x : Option Kind) → FilledBy extra items nodes [] x → nodes ≡ none
-no_nodes extra items none x filled = refl
-no_nodes extra items (more n nodes) x filled = absurd filled
 
 -- at the end no tree goes on
 pub none_longer : (items : List Token) (whole : Want) (handed : List Listing) (at far : ℕ) (tree : Listing) → Comes items whole handed at far tree [] → NoneLonger items whole handed tree (max at far)

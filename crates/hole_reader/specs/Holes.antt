@@ -31,7 +31,8 @@ is_hole _ = false
 abbrev pub holes_in : Node → Part → List Listing
 holes_in n p = outer_in is_hole n p
 
--- a part of the one form that stands only in constructors, and of which the next token doesn't tell whether a tree is there
+-- a part of the one form that stands only in constructors, and of which the next token doesn't tell whether a tree is
+-- there
 abbrev pub is_open_part : Part → Bool
 is_open_part (Many f.ConForall) = true
 is_open_part (Maybe f.ConForall) = true

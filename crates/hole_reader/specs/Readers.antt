@@ -26,10 +26,16 @@ most = 18446744073709551615
 
 -- the reader has read so far, with these trees handed in; what was handed in last is a tree that it wanted
 abbrev pub ReadingBy : List Token → List Listing → Reader → Next → Type 0
-ReadingBy items handed r Begin = (handed ≡ []) × (r.machine.at ≡ r.whole.tag) × (r.machine.far ≡ r.whole.tag) × (r.machine.wants ≡ []) × (r.machine.tree.leaves ≡ []) × (r.machine.tree.marks ≡ [])
-ReadingBy items handed r (Open want) = Comes items r.whole handed r.machine.at r.machine.far r.machine.tree (want ∷ r.machine.wants) × ((hole : Hole) × (want.part ≡ One (form_of hole)))
+ReadingBy items handed r Begin =
+    (handed ≡ []) × (r.machine.at ≡ r.whole.tag) × (r.machine.far ≡ r.whole.tag) × (r.machine.wants ≡ [])
+    × (r.machine.tree.leaves ≡ []) × (r.machine.tree.marks ≡ [])
+ReadingBy items handed r (Open want) =
+    Comes items r.whole handed r.machine.at r.machine.far r.machine.tree (want ∷ r.machine.wants)
+    × ((hole : Hole) × (want.part ≡ One (form_of hole)))
 ReadingBy items handed r (Filled filling) =
-    (before : List Listing) × (handed ≡ before ++ filling.tree ∷ []) × Comes items r.whole before r.machine.at r.machine.far r.machine.tree (filling.want ∷ r.machine.wants) × ((hole : Hole) × (filling.want.part ≡ One (form_of hole)))
+    (before : List Listing) × (handed ≡ before ++ filling.tree ∷ [])
+    × Comes items r.whole before r.machine.at r.machine.far r.machine.tree (filling.want ∷ r.machine.wants)
+    × ((hole : Hole) × (filling.want.part ≡ One (form_of hole)))
     × ReadsWant items filling.want r.machine.at filling.tree filling.behind
 ReadingBy items handed r Over = ⊥
 
@@ -59,7 +65,9 @@ pub record Waits (r : Reader) (hole : Hole) (place depth : ℕ) : Type 0 where
 
 -- a step that asks for a tree changes only what the reader waits for
 abbrev pub AsksFor : Asked → Reader → Reader → Step → Type 0
-AsksFor asked r s (Wants hole place depth) = (hole ≡ asked.hole) × (s.machine.at ≡ place) × (asked.want.room + depth ≡ most) × (s ≡ record r { next = Open asked.want })
+AsksFor asked r s (Wants hole place depth) =
+    (hole ≡ asked.hole) × (s.machine.at ≡ place) × (asked.want.room + depth ≡ most)
+    × (s ≡ record r { next = Open asked.want })
 AsksFor asked r s (Done tree behind) = ⊥
 
 -- the step that gives what was read
@@ -72,7 +80,8 @@ abbrev pub Hands : List Token → Reader → Listing → ℕ → Type 0
 Hands items r tree behind = (want : Want) → r.next ≡ Open want → ReadsWant items want r.machine.at tree behind
 
 -- the tree is the longest one for the part that begins at its place, and has these expressions and constructors
-pub record ReadsWith (items : List Token) (whole : Want) (handed : List Listing) (tree : Listing) (behind : ℕ) : Type 0 where
+pub record ReadsWith (items : List Token) (whole : Want) (handed : List Listing) (tree : Listing)
+    (behind : ℕ) : Type 0 where
   pub node : Node
   pub fits : Fits whole.room (name_at items whole.tag) node whole.part (first_kind (drop behind items))
   pub lists : Lists tree node
@@ -80,13 +89,16 @@ pub record ReadsWith (items : List Token) (whole : Want) (handed : List Listing)
   pub holes : holes_in node whole.part ≡ handed
   pub ends : behind ≡ whole.tag + length tree.leaves
 
--- each tree for the part, however deep, whose first expressions and constructors are these, and that has the tokens through
--- the one at the place, spells just what this one spells
+-- each tree for the part, however deep, whose first expressions and constructors are these, and that has the tokens
+-- through the one at the place, spells just what this one spells
 abbrev pub NoneLonger : List Token → Want → List Listing → Listing → ℕ → Type 0
-NoneLonger items whole handed tree place = is_open_part whole.part ≡ false → (g : GoesOn items whole handed place) → spell g.node ≡ tree.leaves
+NoneLonger items whole handed tree place =
+    is_open_part whole.part ≡ false → (g : GoesOn items whole handed place) → spell g.node ≡ tree.leaves
 
--- a step: the reader wants a tree, or it has read the longest tree for its part with the trees handed in: no other goes on
--- with the token behind it and with those that were looked at
+-- a step: the reader wants a tree, or it has read the longest tree for its part with the trees handed in: no other
+-- goes on with the token behind it and with those that were looked at
 abbrev pub Steps : List Token → List Listing → Reader → Reader → Step → Type 0
-Steps items handed r s (Wants hole place depth) = Waits s hole place depth × Reading items handed s × (s.whole ≡ r.whole)
-Steps items handed r s (Done tree behind) = ReadsWith items r.whole handed tree behind × NoneLonger items r.whole handed tree (max behind s.machine.far)
+Steps items handed r s (Wants hole place depth) =
+    Waits s hole place depth × Reading items handed s × (s.whole ≡ r.whole)
+Steps items handed r s (Done tree behind) =
+    ReadsWith items r.whole handed tree behind × NoneLonger items r.whole handed tree (max behind s.machine.far)

@@ -31,8 +31,8 @@ pub record Begins (items : List Token) (whole : Want) (handed : List Listing) (p
   pub spelled : spell node ≡ front ++ after
   pub holes : holes_in node whole.part ≡ handed ++ later
 
--- a tree for the part, however deep, whose first expressions and constructors are these has the tokens through the one at
--- the place, with some tokens behind it; or it ends where the tokens end
+-- a tree for the part, however deep, whose first expressions and constructors are these has the tokens through the
+-- one at the place, with some tokens behind it; or it ends where the tokens end
 pub record GoesOn (items : List Token) (whole : Want) (handed : List Listing) (place : ℕ) : Type 0 where
   pub node : Node
   pub levels : ℕ
@@ -42,7 +42,8 @@ pub record GoesOn (items : List Token) (whole : Want) (handed : List Listing) (p
   pub agrees : Agrees items whole.tag place (spell node ++ tail)
   pub holes : holes_in node whole.part ≡ handed ++ later
 
--- the token at the place, or the end there, is the first that no tree for the part with these expressions and constructors has
+-- the token at the place, or the end there, is the first that no tree for the part with these expressions and
+-- constructors has
 pub record RefusedAt (items : List Token) (whole : Want) (handed : List Listing) (place : ℕ) : Type 0 where
   pub begins : whole.tag ≤ length items → 2 ≤ whole.room → Begins items whole handed place
   pub ends : is_open_part whole.part ≡ false → GoesOn items whole handed place → ⊥
@@ -64,7 +65,8 @@ Told ts stop.Memory fault = fault ≡ Memory
 
 -- the next token, or one that was looked at, is refused, and the next doesn't begin what is asked for
 abbrev pub Unbegun : List Token → Hole → Machine → Stop → Type 0
-Unbegun items hole m (stop.Refused place) = (begins (form_of hole) (first_kind (drop m.at items)) ≡ false) × (place ≡ max m.at m.far)
+Unbegun items hole m (stop.Refused place) =
+    (begins (form_of hole) (first_kind (drop m.at items)) ≡ false) × (place ≡ max m.at m.far)
 Unbegun items hole m stop.Memory = Unit {0}
 
 -- there is room for the levels that a form's rule needs

@@ -7,7 +7,7 @@ use grammar_engine::Want;
 use surface_grammar::{Form, Hole, Part};
 
 /// What is to be handed in: a tree for this want, which is such a hole.
-#[derive(Clone, Copy, Debug)]
+#[derive(Clone, Copy)]
 pub struct Asked {
     pub hole: Hole,
     pub want: Want,

@@ -18,7 +18,8 @@ use std::alloc::Global;
 use surface_grammar::{Form, Part, Rule, SqlRule};
 use surface_tree::Tokens;
 
-/// The rule of the form by which reading goes on. In a query's braces, `[` with no `]` behind it begins a spliced value.
+/// The rule of the form by which reading goes on. In a query's braces, `[` with no `]` behind it begins a spliced
+/// value.
 fn pick(machine: &mut Machine, tokens: &Tokens, form: Form, room: u64) -> Option<Rule>
     ensures chosen { IfSome result (λ rule. Chosen form (first_kind (drop machine.old.at tokens.now.items)) rule) }
     ensures sure { IfSome result (λ rule. RuleSure tokens.now.items form rule room 0 machine.old.at machine.new.far) }

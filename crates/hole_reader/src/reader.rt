@@ -3,7 +3,7 @@ ghost use Rattle.std.specs.Prelude.{◌≡◌, ◌++◌, ◌∷◌, [], List, If
 ghost use Rattle.surface_tree.specs.declared.token.Token.{Token};
 ghost use Rattle.surface_grammar.specs.Listings.{Listing};
 ghost use Rattle.grammar_engine.specs.Faults.{byte_at};
-ghost use Rattle.hole_reader.specs.Progress.{Comes};
+ghost use Rattle.hole_reader.specs.Progress.{ComesTo};
 ghost use Rattle.hole_reader.specs.Readers.{AsksFor, Fresh, Gives, Hands, IsOpen, Reading, Steps};
 ghost use Rattle.hole_reader.specs.Refuses.{Refuses, StopsAt, Told, Unbegun};
 
@@ -111,8 +111,9 @@ impl Reader {
 
     /// Begins, or takes in what was handed in.
     fn resume(&mut self) -> Result<(), AllocError>
-        ensures comes { (items : List Token) (handed : List Listing) → Reading items handed self.old → (IsOpen self.old → ⊥)
-            → OnOk result (Comes items self.new.whole handed self.new.machine.at self.new.machine.far self.new.machine.tree self.new.machine.wants) }
+        ensures comes { (items : List Token) (handed : List Listing) → Reading items handed self.old
+            → (IsOpen self.old → ⊥)
+            → OnOk result (ComesTo items self.new.whole handed self.new.machine) }
         ensures whole { self.new.whole ≡ self.old.whole }
     {
         match mem::replace(&mut self.next, Next::Over) {
@@ -156,9 +157,9 @@ impl Reader {
 
     /// Reads on to the next hole, or to the end.
     fn go_on(&mut self, tokens: &Tokens) -> Result<Step, Stop>
-        ensures steps { (handed : List Listing) → Comes tokens.now.items self.old.whole handed self.old.machine.at self.old.machine.far self.old.machine.tree self.old.machine.wants
+        ensures steps { (handed : List Listing) → ComesTo tokens.now.items self.old.whole handed self.old.machine
             → IfOk result (Steps tokens.now.items handed self.old self.new) }
-        ensures stops { (handed : List Listing) → Comes tokens.now.items self.old.whole handed self.old.machine.at self.old.machine.far self.old.machine.tree self.old.machine.wants
+        ensures stops { (handed : List Listing) → ComesTo tokens.now.items self.old.whole handed self.old.machine
             → IfErr result (StopsAt tokens.now.items self.old.whole handed) }
     {
         match read_on(&mut self.machine, self.alloc, tokens)? {
@@ -167,13 +168,15 @@ impl Reader {
         }
     }
 
-    /// Reads on to the next tree that another reader hands in, or to the end. It refuses the first token that no tree for
-    /// its part with the trees handed in has, however deep.
+    /// Reads on to the next tree that another reader hands in, or to the end. It refuses the first token that no tree
+    /// for its part with the trees handed in has, however deep.
     pub fn step(&mut self, tokens: &Tokens) -> Result<Step, ParseFault>
         requires reading { (handed : List Listing) × Reading tokens.now.items handed self.old }
         requires closed { IsOpen self.old → ⊥ }
-        ensures steps { (handed : List Listing) → Reading tokens.now.items handed self.old → IfOk result (Steps tokens.now.items handed self.old self.new) }
-        ensures refused { (handed : List Listing) → Reading tokens.now.items handed self.old → IfErr result (Refuses tokens.now self.old.whole handed) }
+        ensures steps { (handed : List Listing) → Reading tokens.now.items handed self.old
+            → IfOk result (Steps tokens.now.items handed self.old self.new) }
+        ensures refused { (handed : List Listing) → Reading tokens.now.items handed self.old
+            → IfErr result (Refuses tokens.now self.old.whole handed) }
     {
         self.resume()?;
         match self.go_on(tokens) {
@@ -185,7 +188,8 @@ impl Reader {
     /// Hands in the tree that the last step wanted, and the place of the token behind it. It takes no memory.
     pub fn fill(&mut self, tree: Tree, behind: u32)
         requires { IsOpen self.old }
-        ensures handed { (items : List Token) (handed : List Listing) → Reading items handed self.old → Hands items self.old tree behind → Reading items (handed ++ tree ∷ []) self.new }
+        ensures handed { (items : List Token) (handed : List Listing) → Reading items handed self.old
+            → Hands items self.old tree behind → Reading items (handed ++ tree ∷ []) self.new }
         ensures closed { IsOpen self.new → ⊥ }
         ensures whole { self.new.whole ≡ self.old.whole }
     {

@@ -1,4 +1,5 @@
-//! Parses a file and prints how long that took behind lexing, and how large the tree is: the program of `bench/parse.sh`.
+//! Parses a file and prints how long that took behind lexing, and how large the tree is: the program of
+//! `bench/parse.sh`.
 #![tactic(auto)]
 
 ghost use Rattle.std.specs.Prelude.{◌<◌, ◌^◌, length};

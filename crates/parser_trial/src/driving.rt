@@ -43,7 +43,9 @@ fn filling_of(
     place: u32,
     depth: u32,
 ) -> Result<Found, ParseFault>
-    ensures reads { IfOk result (λ found. (room : ℕ) → room + depth ≡ most → Reads tokens.now.items (One (form_of hole)) place room found.tree found.behind) }
+    ensures reads { IfOk result
+        (λ found. (room : ℕ) → room + depth ≡ most
+        → Reads tokens.now.items (One (form_of hole)) place room found.tree found.behind) }
     ensures place { IfOk result (λ found. found.behind ≡ place + length found.tree.leaves) }
 {
     match read_part(

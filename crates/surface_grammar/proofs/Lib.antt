@@ -1,1 +1,6 @@
+-- `words.accepts`: kinds are compared by their numbers
 pub mod Codes
+-- each law of all forms, here and above
+pub mod Every
+-- `laws.words_are_computed`
+pub mod Firsts

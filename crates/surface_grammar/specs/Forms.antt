@@ -17,264 +17,379 @@ use Rattle.surface_grammar.specs.declared.queries.SqlRule.TheVariants as sql
 
 -- the rules of a form: a tree of it is made by one of them
 abbrev pub rules_of : Form → List Rule
-rules_of f.KindTerm = (r.Kind kind.KindTerm) ∷ []
-rules_of f.KindArrow = (r.Kind kind.KindArrow) ∷ []
-rules_of f.KindAtom = (r.Kind kind.KindType) ∷ (r.Kind kind.KindUnit) ∷ (r.Kind kind.KindName) ∷ (r.Kind kind.KindRow) ∷ (r.Kind kind.KindTuple) ∷ []
-rules_of f.KindTimes = (r.Kind kind.KindTimes) ∷ []
-rules_of f.KindMark = (r.Kind kind.KindMark) ∷ []
-rules_of f.Con = (r.Con con.ConLambda) ∷ (r.Con con.ConLower) ∷ (r.Con con.ConBracket) ∷ (r.Con con.ConOther) ∷ []
-rules_of f.ConForall = (r.Con con.ConExplicit) ∷ (r.Con con.ConImplicit) ∷ []
-rules_of f.ConArrow = (r.Con con.ConArrow) ∷ []
-rules_of f.ConProduct = (r.Con con.ConProduct) ∷ []
-rules_of f.ConTimes = (r.Con con.ConTimes) ∷ []
-rules_of f.ConSum = (r.Con con.ConSum) ∷ []
-rules_of f.ConConcat = (r.Con con.ConConcat) ∷ []
-rules_of f.ConApply = (r.Con con.ConApply) ∷ []
-rules_of f.ConTerm = (r.Con con.ConRecord) ∷ (r.Con con.ConPlain) ∷ []
-rules_of f.ConDollar = (r.Con con.ConDollar) ∷ []
-rules_of f.ConPrimary = (r.Con con.ConPrimary) ∷ []
-rules_of f.ConIndex = (r.Con con.ConIndex) ∷ []
-rules_of f.ConAtom = (r.Con con.ConPath) ∷ (r.Con con.ConWild) ∷ (r.Con con.ConHash) ∷ (r.Con con.ConParens) ∷ (r.Con con.ConFields) ∷ (r.Con con.ConRow) ∷ []
-rules_of f.HashName = (r.Con con.HashUpper) ∷ (r.Con con.HashInt) ∷ []
-rules_of f.ConParenRest = (r.Con con.ConUnit) ∷ (r.Con con.ConGroup) ∷ []
-rules_of f.ConParenEnd = (r.Con con.ConClose) ∷ (r.Con con.ConMarked) ∷ (r.Con con.ConTuple) ∷ []
-rules_of f.ConComma = (r.Con con.ConComma) ∷ []
-rules_of f.ConFieldTypes = (r.Con con.ConFieldTypes) ∷ []
-rules_of f.ConFieldMore = (r.Con con.ConFieldMore) ∷ []
-rules_of f.ConRowFields = (r.Con con.ConRowFields) ∷ []
-rules_of f.ConFieldValue = (r.Con con.ConFieldValue) ∷ []
-rules_of f.ConRowMore = (r.Con con.ConRowMore) ∷ []
-rules_of f.FieldName = (r.Con con.FieldUpper) ∷ (r.Con con.FieldInt) ∷ (r.Con con.FieldHash) ∷ (r.Con con.FieldLower) ∷ []
-rules_of f.Path = (r.Con con.Path) ∷ []
-rules_of f.UpperDot = (r.Con con.UpperDot) ∷ []
-rules_of f.BracketOpen = (r.Con con.BracketOpen) ∷ []
-rules_of f.BracketRest = (r.Con con.BracketEmpty) ∷ (r.Con con.BracketInt) ∷ (r.Con con.BracketLower) ∷ (r.Con con.BracketUpper) ∷ (r.Con con.BracketHash) ∷ (r.Con con.BracketGuard) ∷ []
-rules_of f.BracketFields = (r.Con con.BracketFields) ∷ []
-rules_of f.BracketNameRest = (r.Con con.BracketNameRow) ∷ (r.Con con.BracketNameGuard) ∷ []
-rules_of f.BracketUpperRest = (r.Con con.BracketUpperRow) ∷ (r.Con con.BracketUpperGuard) ∷ []
-rules_of f.BracketHashRest = (r.Con con.BracketHashUpper) ∷ (r.Con con.BracketHashInt) ∷ []
-rules_of f.GuardSides = (r.Con con.GuardSides) ∷ []
-rules_of f.NameSides = (r.Con con.NameSides) ∷ []
-rules_of f.PathSides = (r.Con con.PathSides) ∷ []
-rules_of f.IntSides = (r.Con con.IntSides) ∷ []
-rules_of f.Pat = (r.Pat pat.Pat) ∷ []
-rules_of f.PatCons = (r.Pat pat.PatCons) ∷ []
-rules_of f.PatTerm = (r.Pat pat.PatConstructor) ∷ (r.Pat pat.PatPlain) ∷ []
-rules_of f.PatAtom = (r.Pat pat.PatWild) ∷ (r.Pat pat.PatVariable) ∷ (r.Pat pat.PatInt) ∷ (r.Pat pat.PatNegative) ∷ (r.Pat pat.PatString) ∷ (r.Pat pat.PatName) ∷ (r.Pat pat.PatList) ∷ (r.Pat pat.PatParens) ∷ (r.Pat pat.PatRecord) ∷ []
-rules_of f.UpperPath = (r.Pat pat.UpperPath) ∷ []
-rules_of f.DotUpper = (r.Pat pat.DotUpper) ∷ []
-rules_of f.PatParenRest = (r.Pat pat.PatUnit) ∷ (r.Pat pat.PatGroup) ∷ []
-rules_of f.PatParenEnd = (r.Pat pat.PatClose) ∷ (r.Pat pat.PatTyped) ∷ (r.Pat pat.PatTuple) ∷ []
-rules_of f.PatComma = (r.Pat pat.PatComma) ∷ []
-rules_of f.PatRecordRest = (r.Pat pat.PatRecordEmpty) ∷ (r.Pat pat.PatRecordDots) ∷ (r.Pat pat.PatRecordFields) ∷ []
-rules_of f.PatFieldMore = (r.Pat pat.PatFieldMore) ∷ []
-rules_of f.PatFieldNext = (r.Pat pat.PatFieldDots) ∷ (r.Pat pat.PatFieldNamed) ∷ []
-rules_of f.Arg = (r.Arg arg.ArgPattern) ∷ (r.Arg arg.ArgBracket) ∷ []
-rules_of f.ArgBracketRest = (r.Arg arg.ArgList) ∷ (r.Arg arg.ArgLower) ∷ (r.Arg arg.ArgGuard) ∷ []
-rules_of f.ArgLowerRest = (r.Arg arg.ArgType) ∷ (r.Arg arg.ArgExplicit) ∷ (r.Arg arg.ArgImplicit) ∷ (r.Arg arg.ArgLowerGuard) ∷ []
-rules_of f.Exp = (r.Exp exp.ExpBind) ∷ (r.Exp exp.ExpPlain) ∷ []
-rules_of f.ExpBindRest = (r.Exp exp.ExpBindRest) ∷ []
-rules_of f.ExpThen = (r.Exp exp.ExpThen) ∷ []
-rules_of f.Term = (r.Exp exp.TermLambda) ∷ (r.Exp exp.TermCase) ∷ (r.Exp exp.TermIf) ∷ (r.Exp exp.TermOr) ∷ []
-rules_of f.CaseBar = (r.Exp exp.CaseBar) ∷ []
-rules_of f.CaseMore = (r.Exp exp.CaseMore) ∷ []
-rules_of f.Body = (r.Exp exp.BodyIf) ∷ (r.Exp exp.BodyOr) ∷ []
-rules_of f.Or = (r.Exp exp.Or) ∷ []
-rules_of f.OrMore = (r.Exp exp.OrMore) ∷ []
-rules_of f.And = (r.Exp exp.And) ∷ []
-rules_of f.AndMore = (r.Exp exp.AndMore) ∷ []
-rules_of f.Compare = (r.Exp exp.Compare) ∷ []
-rules_of f.CompareMore = (r.Exp exp.CompareEqual) ∷ (r.Exp exp.CompareNotEqual) ∷ (r.Exp exp.CompareLess) ∷ (r.Exp exp.CompareLessOrEqual) ∷ (r.Exp exp.CompareGreater) ∷ (r.Exp exp.CompareGreaterOrEqual) ∷ []
-rules_of f.Cons = (r.Exp exp.Cons) ∷ []
-rules_of f.ConsMore = (r.Exp exp.ConsMore) ∷ []
-rules_of f.Join = (r.Exp exp.Join) ∷ []
-rules_of f.JoinMore = (r.Exp exp.JoinTexts) ∷ (r.Exp exp.JoinRecords) ∷ []
-rules_of f.Sum = (r.Exp exp.Sum) ∷ []
-rules_of f.SumMore = (r.Exp exp.SumPlus) ∷ (r.Exp exp.SumMinus) ∷ []
-rules_of f.Product = (r.Exp exp.Product) ∷ []
-rules_of f.ProductMore = (r.Exp exp.ProductTimes) ∷ (r.Exp exp.ProductDivide) ∷ (r.Exp exp.ProductModulo) ∷ []
-rules_of f.Sign = (r.Exp exp.SignMinus) ∷ (r.Exp exp.SignNone) ∷ []
-rules_of f.Cut = (r.Exp exp.Cut) ∷ []
-rules_of f.CutMore = (r.Exp exp.CutField) ∷ (r.Exp exp.CutRow) ∷ []
-rules_of f.Apply = (r.Exp exp.Apply) ∷ []
-rules_of f.Argument = (r.Exp exp.ArgumentTerm) ∷ (r.Exp exp.ArgumentBracket) ∷ (r.Exp exp.ArgumentGuard) ∷ []
-rules_of f.ArgumentRest = (r.Exp exp.ArgumentList) ∷ (r.Exp exp.ArgumentCon) ∷ []
-rules_of f.Atom = (r.Exp exp.AtomTerm) ∷ (r.Exp exp.AtomList) ∷ []
-rules_of f.Operand = (r.Exp exp.Operand) ∷ []
-rules_of f.Dot = (r.Exp exp.Dot) ∷ []
-rules_of f.Primary = (r.Exp exp.PrimaryInt) ∷ (r.Exp exp.PrimaryString) ∷ (r.Exp exp.PrimaryLower) ∷ (r.Exp exp.PrimaryUpper) ∷ (r.Exp exp.PrimaryAt) ∷ (r.Exp exp.PrimaryAtAt) ∷ (r.Exp exp.PrimaryParens) ∷ (r.Exp exp.PrimaryRecord) ∷ (r.Exp exp.PrimaryLet) ∷ (r.Exp exp.PrimaryXmlEmpty) ∷ (r.Exp exp.PrimaryXml) ∷ []
-rules_of f.AnyName = (r.Exp exp.AnyLower) ∷ (r.Exp exp.AnyUpper) ∷ []
-rules_of f.ParenRest = (r.Exp exp.ParenUnit) ∷ (r.Exp exp.ParenGroup) ∷ (r.Exp exp.ParenSql) ∷ []
-rules_of f.ParenEnd = (r.Exp exp.ParenClose) ∷ (r.Exp exp.ParenTyped) ∷ (r.Exp exp.ParenTuple) ∷ []
-rules_of f.ExpComma = (r.Exp exp.ExpComma) ∷ []
-rules_of f.ExpFields = (r.Exp exp.ExpFields) ∷ []
-rules_of f.ExpFieldMore = (r.Exp exp.ExpFieldMore) ∷ []
-rules_of f.Node = (r.Markup markup.NodeText) ∷ (r.Markup markup.NodeBrace) ∷ (r.Markup markup.NodeElement) ∷ []
-rules_of f.NodeBraceRest = (r.Markup markup.NodeSplice) ∷ (r.Markup markup.NodeExp) ∷ []
-rules_of f.Splice = (r.Markup markup.Splice) ∷ []
-rules_of f.TagName = (r.Markup markup.TagName) ∷ []
-rules_of f.ElementEnd = (r.Markup markup.ElementEmpty) ∷ (r.Markup markup.ElementFull) ∷ []
-rules_of f.Attribute = (r.Markup markup.Attribute) ∷ []
-rules_of f.AttributeValue = (r.Markup markup.AttributeString) ∷ (r.Markup markup.AttributeInt) ∷ (r.Markup markup.AttributeExp) ∷ []
-rules_of f.Decl = (r.Decl decl.DeclVal) ∷ (r.Decl decl.DeclFun) ∷ (r.Decl decl.DeclCon) ∷ (r.Decl decl.DeclType) ∷ (r.Decl decl.DeclDatatype) ∷ (r.Decl decl.DeclTable) ∷ (r.Decl decl.DeclSequence) ∷ (r.Decl decl.DeclCookie) ∷ []
-rules_of f.LetDecl = (r.Decl decl.LetVal) ∷ (r.Decl decl.LetFun) ∷ []
-rules_of f.ValRest = (r.Decl decl.ValPlain) ∷ (r.Decl decl.ValRec) ∷ []
-rules_of f.RecMore = (r.Decl decl.RecMore) ∷ []
-rules_of f.FunMore = (r.Decl decl.FunMore) ∷ []
-rules_of f.TypeMark = (r.Decl decl.TypeMark) ∷ []
-rules_of f.Parameter = (r.Decl decl.Parameter) ∷ []
-rules_of f.Constructor = (r.Decl decl.Constructor) ∷ []
-rules_of f.ConstructorOf = (r.Decl decl.ConstructorOf) ∷ []
-rules_of f.ConstructorMore = (r.Decl decl.ConstructorMore) ∷ []
-rules_of f.KeyMark = (r.Decl decl.KeyMark) ∷ []
-rules_of f.KeyColumns = (r.Decl decl.KeyColumn) ∷ (r.Decl decl.KeyList) ∷ []
-rules_of f.ColumnList = (r.Decl decl.ColumnList) ∷ []
-rules_of f.ColumnMore = (r.Decl decl.ColumnMore) ∷ []
-rules_of f.InterfaceItem = (r.Decl decl.InterfaceItem) ∷ []
-rules_of f.Sql = (r.Sql sql.SqlSelect) ∷ (r.Sql sql.SqlInsert) ∷ (r.Sql sql.SqlUpdate) ∷ (r.Sql sql.SqlDelete) ∷ (r.Sql sql.SqlWhere) ∷ []
-rules_of f.Where = (r.Sql sql.Where) ∷ []
-rules_of f.OrderBy = (r.Sql sql.OrderBy) ∷ []
-rules_of f.Limit = (r.Sql sql.Limit) ∷ []
-rules_of f.Offset = (r.Sql sql.Offset) ∷ []
-rules_of f.ValueList = (r.Sql sql.ValueList) ∷ []
-rules_of f.ValueMore = (r.Sql sql.ValueMore) ∷ []
-rules_of f.Assignment = (r.Sql sql.Assignment) ∷ []
-rules_of f.AssignmentMore = (r.Sql sql.AssignmentMore) ∷ []
-rules_of f.Selection = (r.Sql sql.SelectAll) ∷ (r.Sql sql.SelectItems) ∷ []
-rules_of f.ItemMore = (r.Sql sql.ItemMore) ∷ []
-rules_of f.Item = (r.Sql sql.ItemLower) ∷ (r.Sql sql.ItemUpper) ∷ (r.Sql sql.ItemOther) ∷ []
-rules_of f.ItemUpperRest = (r.Sql sql.ItemUpperDot) ∷ (r.Sql sql.ItemUpperNamed) ∷ []
-rules_of f.ItemDot = (r.Sql sql.ItemColumn) ∷ (r.Sql sql.ItemStar) ∷ (r.Sql sql.ItemBraces) ∷ []
-rules_of f.ItemBracesRow = (r.Sql sql.ItemBracesRow) ∷ []
-rules_of f.ItemNamed = (r.Sql sql.ItemNamed) ∷ []
-rules_of f.Source = (r.Sql sql.SourceTable) ∷ (r.Sql sql.SourceExp) ∷ []
-rules_of f.SourceMore = (r.Sql sql.SourceMore) ∷ []
-rules_of f.AsMark = (r.Sql sql.AsMark) ∷ []
-rules_of f.TableRef = (r.Sql sql.RefTable) ∷ (r.Sql sql.RefExp) ∷ []
-rules_of f.TableBraces = (r.Sql sql.TableBraces) ∷ []
-rules_of f.TableBracesExp = (r.Sql sql.TableBracesExp) ∷ []
-rules_of f.Order = (r.Sql sql.Order) ∷ []
-rules_of f.Direction = (r.Sql sql.DirectionAsc) ∷ (r.Sql sql.DirectionDesc) ∷ []
-rules_of f.OrderMore = (r.Sql sql.OrderMore) ∷ []
-rules_of f.Count = (r.Sql sql.CountInt) ∷ (r.Sql sql.CountExp) ∷ []
-rules_of f.SqlOr = (r.Sql sql.SqlOr) ∷ []
-rules_of f.SqlOrMore = (r.Sql sql.SqlOrMore) ∷ []
-rules_of f.SqlAnd = (r.Sql sql.SqlAnd) ∷ []
-rules_of f.SqlAndMore = (r.Sql sql.SqlAndMore) ∷ []
-rules_of f.SqlNot = (r.Sql sql.SqlNegated) ∷ (r.Sql sql.SqlCompared) ∷ []
-rules_of f.SqlCompare = (r.Sql sql.SqlCompare) ∷ []
-rules_of f.SqlCompareMore = (r.Sql sql.SqlEqual) ∷ (r.Sql sql.SqlNotEqual) ∷ (r.Sql sql.SqlLess) ∷ (r.Sql sql.SqlLessOrEqual) ∷ (r.Sql sql.SqlGreater) ∷ (r.Sql sql.SqlGreaterOrEqual) ∷ []
-rules_of f.SqlSum = (r.Sql sql.SqlSum) ∷ []
-rules_of f.SqlSumMore = (r.Sql sql.SqlPlus) ∷ (r.Sql sql.SqlMinus) ∷ []
-rules_of f.SqlProduct = (r.Sql sql.SqlProduct) ∷ []
-rules_of f.SqlProductMore = (r.Sql sql.SqlTimes) ∷ (r.Sql sql.SqlDivide) ∷ (r.Sql sql.SqlModulo) ∷ []
-rules_of f.SqlTerm = (r.Sql sql.SqlNegative) ∷ (r.Sql sql.SqlInt) ∷ (r.Sql sql.SqlString) ∷ (r.Sql sql.SqlTrue) ∷ (r.Sql sql.SqlFalse) ∷ (r.Sql sql.SqlField) ∷ (r.Sql sql.SqlColumn) ∷ (r.Sql sql.SqlBrace) ∷ (r.Sql sql.SqlParens) ∷ []
-rules_of f.SqlBraceRest = (r.Sql sql.SqlSplice) ∷ (r.Sql sql.SqlExp) ∷ []
+rules_of f.KindTerm = r.Kind kind.KindTerm ∷ []
+rules_of f.KindArrow = r.Kind kind.KindArrow ∷ []
+rules_of f.KindAtom =
+    r.Kind kind.KindType ∷ r.Kind kind.KindUnit ∷ r.Kind kind.KindName ∷ r.Kind kind.KindRow ∷ r.Kind kind.KindTuple ∷
+    []
+rules_of f.KindTimes = r.Kind kind.KindTimes ∷ []
+rules_of f.KindMark = r.Kind kind.KindMark ∷ []
+rules_of f.Con = r.Con con.ConLambda ∷ r.Con con.ConLower ∷ r.Con con.ConBracket ∷ r.Con con.ConOther ∷ []
+rules_of f.ConForall = r.Con con.ConExplicit ∷ r.Con con.ConImplicit ∷ []
+rules_of f.ConArrow = r.Con con.ConArrow ∷ []
+rules_of f.ConProduct = r.Con con.ConProduct ∷ []
+rules_of f.ConTimes = r.Con con.ConTimes ∷ []
+rules_of f.ConSum = r.Con con.ConSum ∷ []
+rules_of f.ConConcat = r.Con con.ConConcat ∷ []
+rules_of f.ConApply = r.Con con.ConApply ∷ []
+rules_of f.ConTerm = r.Con con.ConRecord ∷ r.Con con.ConPlain ∷ []
+rules_of f.ConDollar = r.Con con.ConDollar ∷ []
+rules_of f.ConPrimary = r.Con con.ConPrimary ∷ []
+rules_of f.ConIndex = r.Con con.ConIndex ∷ []
+rules_of f.ConAtom =
+    r.Con con.ConPath ∷ r.Con con.ConWild ∷ r.Con con.ConHash ∷ r.Con con.ConParens ∷ r.Con con.ConFields ∷
+    r.Con con.ConRow ∷ []
+rules_of f.HashName = r.Con con.HashUpper ∷ r.Con con.HashInt ∷ []
+rules_of f.ConParenRest = r.Con con.ConUnit ∷ r.Con con.ConGroup ∷ []
+rules_of f.ConParenEnd = r.Con con.ConClose ∷ r.Con con.ConMarked ∷ r.Con con.ConTuple ∷ []
+rules_of f.ConComma = r.Con con.ConComma ∷ []
+rules_of f.ConFieldTypes = r.Con con.ConFieldTypes ∷ []
+rules_of f.ConFieldMore = r.Con con.ConFieldMore ∷ []
+rules_of f.ConRowFields = r.Con con.ConRowFields ∷ []
+rules_of f.ConFieldValue = r.Con con.ConFieldValue ∷ []
+rules_of f.ConRowMore = r.Con con.ConRowMore ∷ []
+rules_of f.FieldName = r.Con con.FieldUpper ∷ r.Con con.FieldInt ∷ r.Con con.FieldHash ∷ r.Con con.FieldLower ∷ []
+rules_of f.Path = r.Con con.Path ∷ []
+rules_of f.UpperDot = r.Con con.UpperDot ∷ []
+rules_of f.BracketOpen = r.Con con.BracketOpen ∷ []
+rules_of f.BracketRest =
+    r.Con con.BracketEmpty ∷ r.Con con.BracketInt ∷ r.Con con.BracketLower ∷ r.Con con.BracketUpper ∷
+    r.Con con.BracketHash ∷ r.Con con.BracketGuard ∷ []
+rules_of f.BracketFields = r.Con con.BracketFields ∷ []
+rules_of f.BracketNameRest = r.Con con.BracketNameRow ∷ r.Con con.BracketNameGuard ∷ []
+rules_of f.BracketUpperRest = r.Con con.BracketUpperRow ∷ r.Con con.BracketUpperGuard ∷ []
+rules_of f.BracketHashRest = r.Con con.BracketHashUpper ∷ r.Con con.BracketHashInt ∷ []
+rules_of f.GuardSides = r.Con con.GuardSides ∷ []
+rules_of f.NameSides = r.Con con.NameSides ∷ []
+rules_of f.PathSides = r.Con con.PathSides ∷ []
+rules_of f.IntSides = r.Con con.IntSides ∷ []
+rules_of f.Pat = r.Pat pat.Pat ∷ []
+rules_of f.PatCons = r.Pat pat.PatCons ∷ []
+rules_of f.PatTerm = r.Pat pat.PatConstructor ∷ r.Pat pat.PatPlain ∷ []
+rules_of f.PatAtom =
+    r.Pat pat.PatWild ∷ r.Pat pat.PatVariable ∷ r.Pat pat.PatInt ∷ r.Pat pat.PatNegative ∷ r.Pat pat.PatString ∷
+    r.Pat pat.PatName ∷ r.Pat pat.PatList ∷ r.Pat pat.PatParens ∷ r.Pat pat.PatRecord ∷ []
+rules_of f.UpperPath = r.Pat pat.UpperPath ∷ []
+rules_of f.DotUpper = r.Pat pat.DotUpper ∷ []
+rules_of f.PatParenRest = r.Pat pat.PatUnit ∷ r.Pat pat.PatGroup ∷ []
+rules_of f.PatParenEnd = r.Pat pat.PatClose ∷ r.Pat pat.PatTyped ∷ r.Pat pat.PatTuple ∷ []
+rules_of f.PatComma = r.Pat pat.PatComma ∷ []
+rules_of f.PatRecordRest = r.Pat pat.PatRecordEmpty ∷ r.Pat pat.PatRecordDots ∷ r.Pat pat.PatRecordFields ∷ []
+rules_of f.PatFieldMore = r.Pat pat.PatFieldMore ∷ []
+rules_of f.PatFieldNext = r.Pat pat.PatFieldDots ∷ r.Pat pat.PatFieldNamed ∷ []
+rules_of f.Arg = r.Arg arg.ArgPattern ∷ r.Arg arg.ArgBracket ∷ []
+rules_of f.ArgBracketRest = r.Arg arg.ArgList ∷ r.Arg arg.ArgLower ∷ r.Arg arg.ArgGuard ∷ []
+rules_of f.ArgLowerRest =
+    r.Arg arg.ArgType ∷ r.Arg arg.ArgExplicit ∷ r.Arg arg.ArgImplicit ∷ r.Arg arg.ArgLowerGuard ∷ []
+rules_of f.Exp = r.Exp exp.ExpBind ∷ r.Exp exp.ExpPlain ∷ []
+rules_of f.ExpBindRest = r.Exp exp.ExpBindRest ∷ []
+rules_of f.ExpThen = r.Exp exp.ExpThen ∷ []
+rules_of f.Term = r.Exp exp.TermLambda ∷ r.Exp exp.TermCase ∷ r.Exp exp.TermIf ∷ r.Exp exp.TermOr ∷ []
+rules_of f.CaseBar = r.Exp exp.CaseBar ∷ []
+rules_of f.CaseMore = r.Exp exp.CaseMore ∷ []
+rules_of f.Body = r.Exp exp.BodyIf ∷ r.Exp exp.BodyOr ∷ []
+rules_of f.Or = r.Exp exp.Or ∷ []
+rules_of f.OrMore = r.Exp exp.OrMore ∷ []
+rules_of f.And = r.Exp exp.And ∷ []
+rules_of f.AndMore = r.Exp exp.AndMore ∷ []
+rules_of f.Compare = r.Exp exp.Compare ∷ []
+rules_of f.CompareMore =
+    r.Exp exp.CompareEqual ∷ r.Exp exp.CompareNotEqual ∷ r.Exp exp.CompareLess ∷ r.Exp exp.CompareLessOrEqual ∷
+    r.Exp exp.CompareGreater ∷ r.Exp exp.CompareGreaterOrEqual ∷ []
+rules_of f.Cons = r.Exp exp.Cons ∷ []
+rules_of f.ConsMore = r.Exp exp.ConsMore ∷ []
+rules_of f.Join = r.Exp exp.Join ∷ []
+rules_of f.JoinMore = r.Exp exp.JoinTexts ∷ r.Exp exp.JoinRecords ∷ []
+rules_of f.Sum = r.Exp exp.Sum ∷ []
+rules_of f.SumMore = r.Exp exp.SumPlus ∷ r.Exp exp.SumMinus ∷ []
+rules_of f.Product = r.Exp exp.Product ∷ []
+rules_of f.ProductMore = r.Exp exp.ProductTimes ∷ r.Exp exp.ProductDivide ∷ r.Exp exp.ProductModulo ∷ []
+rules_of f.Sign = r.Exp exp.SignMinus ∷ r.Exp exp.SignNone ∷ []
+rules_of f.Cut = r.Exp exp.Cut ∷ []
+rules_of f.CutMore = r.Exp exp.CutField ∷ r.Exp exp.CutRow ∷ []
+rules_of f.Apply = r.Exp exp.Apply ∷ []
+rules_of f.Argument = r.Exp exp.ArgumentTerm ∷ r.Exp exp.ArgumentBracket ∷ r.Exp exp.ArgumentGuard ∷ []
+rules_of f.ArgumentRest = r.Exp exp.ArgumentList ∷ r.Exp exp.ArgumentCon ∷ []
+rules_of f.Atom = r.Exp exp.AtomTerm ∷ r.Exp exp.AtomList ∷ []
+rules_of f.Operand = r.Exp exp.Operand ∷ []
+rules_of f.Dot = r.Exp exp.Dot ∷ []
+rules_of f.Primary =
+    r.Exp exp.PrimaryInt ∷ r.Exp exp.PrimaryString ∷ r.Exp exp.PrimaryLower ∷ r.Exp exp.PrimaryUpper ∷
+    r.Exp exp.PrimaryAt ∷ r.Exp exp.PrimaryAtAt ∷ r.Exp exp.PrimaryParens ∷ r.Exp exp.PrimaryRecord ∷
+    r.Exp exp.PrimaryLet ∷ r.Exp exp.PrimaryXmlEmpty ∷ r.Exp exp.PrimaryXml ∷ []
+rules_of f.AnyName = r.Exp exp.AnyLower ∷ r.Exp exp.AnyUpper ∷ []
+rules_of f.ParenRest = r.Exp exp.ParenUnit ∷ r.Exp exp.ParenGroup ∷ r.Exp exp.ParenSql ∷ []
+rules_of f.ParenEnd = r.Exp exp.ParenClose ∷ r.Exp exp.ParenTyped ∷ r.Exp exp.ParenTuple ∷ []
+rules_of f.ExpComma = r.Exp exp.ExpComma ∷ []
+rules_of f.ExpFields = r.Exp exp.ExpFields ∷ []
+rules_of f.ExpFieldMore = r.Exp exp.ExpFieldMore ∷ []
+rules_of f.Node = r.Markup markup.NodeText ∷ r.Markup markup.NodeBrace ∷ r.Markup markup.NodeElement ∷ []
+rules_of f.NodeBraceRest = r.Markup markup.NodeSplice ∷ r.Markup markup.NodeExp ∷ []
+rules_of f.Splice = r.Markup markup.Splice ∷ []
+rules_of f.TagName = r.Markup markup.TagName ∷ []
+rules_of f.ElementEnd = r.Markup markup.ElementEmpty ∷ r.Markup markup.ElementFull ∷ []
+rules_of f.Attribute = r.Markup markup.Attribute ∷ []
+rules_of f.AttributeValue =
+    r.Markup markup.AttributeString ∷ r.Markup markup.AttributeInt ∷ r.Markup markup.AttributeExp ∷ []
+rules_of f.Decl =
+    r.Decl decl.DeclVal ∷ r.Decl decl.DeclFun ∷ r.Decl decl.DeclCon ∷ r.Decl decl.DeclType ∷ r.Decl decl.DeclDatatype ∷
+    r.Decl decl.DeclTable ∷ r.Decl decl.DeclSequence ∷ r.Decl decl.DeclCookie ∷ []
+rules_of f.LetDecl = r.Decl decl.LetVal ∷ r.Decl decl.LetFun ∷ []
+rules_of f.ValRest = r.Decl decl.ValPlain ∷ r.Decl decl.ValRec ∷ []
+rules_of f.RecMore = r.Decl decl.RecMore ∷ []
+rules_of f.FunMore = r.Decl decl.FunMore ∷ []
+rules_of f.TypeMark = r.Decl decl.TypeMark ∷ []
+rules_of f.Parameter = r.Decl decl.Parameter ∷ []
+rules_of f.Constructor = r.Decl decl.Constructor ∷ []
+rules_of f.ConstructorOf = r.Decl decl.ConstructorOf ∷ []
+rules_of f.ConstructorMore = r.Decl decl.ConstructorMore ∷ []
+rules_of f.KeyMark = r.Decl decl.KeyMark ∷ []
+rules_of f.KeyColumns = r.Decl decl.KeyColumn ∷ r.Decl decl.KeyList ∷ []
+rules_of f.ColumnList = r.Decl decl.ColumnList ∷ []
+rules_of f.ColumnMore = r.Decl decl.ColumnMore ∷ []
+rules_of f.InterfaceItem = r.Decl decl.InterfaceItem ∷ []
+rules_of f.Sql =
+    r.Sql sql.SqlSelect ∷ r.Sql sql.SqlInsert ∷ r.Sql sql.SqlUpdate ∷ r.Sql sql.SqlDelete ∷ r.Sql sql.SqlWhere ∷ []
+rules_of f.Where = r.Sql sql.Where ∷ []
+rules_of f.OrderBy = r.Sql sql.OrderBy ∷ []
+rules_of f.Limit = r.Sql sql.Limit ∷ []
+rules_of f.Offset = r.Sql sql.Offset ∷ []
+rules_of f.ValueList = r.Sql sql.ValueList ∷ []
+rules_of f.ValueMore = r.Sql sql.ValueMore ∷ []
+rules_of f.Assignment = r.Sql sql.Assignment ∷ []
+rules_of f.AssignmentMore = r.Sql sql.AssignmentMore ∷ []
+rules_of f.Selection = r.Sql sql.SelectAll ∷ r.Sql sql.SelectItems ∷ []
+rules_of f.ItemMore = r.Sql sql.ItemMore ∷ []
+rules_of f.Item = r.Sql sql.ItemLower ∷ r.Sql sql.ItemUpper ∷ r.Sql sql.ItemOther ∷ []
+rules_of f.ItemUpperRest = r.Sql sql.ItemUpperDot ∷ r.Sql sql.ItemUpperNamed ∷ []
+rules_of f.ItemDot = r.Sql sql.ItemColumn ∷ r.Sql sql.ItemStar ∷ r.Sql sql.ItemBraces ∷ []
+rules_of f.ItemBracesRow = r.Sql sql.ItemBracesRow ∷ []
+rules_of f.ItemNamed = r.Sql sql.ItemNamed ∷ []
+rules_of f.Source = r.Sql sql.SourceTable ∷ r.Sql sql.SourceExp ∷ []
+rules_of f.SourceMore = r.Sql sql.SourceMore ∷ []
+rules_of f.AsMark = r.Sql sql.AsMark ∷ []
+rules_of f.TableRef = r.Sql sql.RefTable ∷ r.Sql sql.RefExp ∷ []
+rules_of f.TableBraces = r.Sql sql.TableBraces ∷ []
+rules_of f.TableBracesExp = r.Sql sql.TableBracesExp ∷ []
+rules_of f.Order = r.Sql sql.Order ∷ []
+rules_of f.Direction = r.Sql sql.DirectionAsc ∷ r.Sql sql.DirectionDesc ∷ []
+rules_of f.OrderMore = r.Sql sql.OrderMore ∷ []
+rules_of f.Count = r.Sql sql.CountInt ∷ r.Sql sql.CountExp ∷ []
+rules_of f.SqlOr = r.Sql sql.SqlOr ∷ []
+rules_of f.SqlOrMore = r.Sql sql.SqlOrMore ∷ []
+rules_of f.SqlAnd = r.Sql sql.SqlAnd ∷ []
+rules_of f.SqlAndMore = r.Sql sql.SqlAndMore ∷ []
+rules_of f.SqlNot = r.Sql sql.SqlNegated ∷ r.Sql sql.SqlCompared ∷ []
+rules_of f.SqlCompare = r.Sql sql.SqlCompare ∷ []
+rules_of f.SqlCompareMore =
+    r.Sql sql.SqlEqual ∷ r.Sql sql.SqlNotEqual ∷ r.Sql sql.SqlLess ∷ r.Sql sql.SqlLessOrEqual ∷ r.Sql sql.SqlGreater ∷
+    r.Sql sql.SqlGreaterOrEqual ∷ []
+rules_of f.SqlSum = r.Sql sql.SqlSum ∷ []
+rules_of f.SqlSumMore = r.Sql sql.SqlPlus ∷ r.Sql sql.SqlMinus ∷ []
+rules_of f.SqlProduct = r.Sql sql.SqlProduct ∷ []
+rules_of f.SqlProductMore = r.Sql sql.SqlTimes ∷ r.Sql sql.SqlDivide ∷ r.Sql sql.SqlModulo ∷ []
+rules_of f.SqlTerm =
+    r.Sql sql.SqlNegative ∷ r.Sql sql.SqlInt ∷ r.Sql sql.SqlString ∷ r.Sql sql.SqlTrue ∷ r.Sql sql.SqlFalse ∷
+    r.Sql sql.SqlField ∷ r.Sql sql.SqlColumn ∷ r.Sql sql.SqlBrace ∷ r.Sql sql.SqlParens ∷ []
+rules_of f.SqlBraceRest = r.Sql sql.SqlSplice ∷ r.Sql sql.SqlExp ∷ []
 
--- the words that begin a tree of a form; that they are those which the rules give is a law of the table
+-- words that begin several forms
+abbrev pub kind_words : List Kind
+kind_words = k.TypeWord ∷ k.UnitWord ∷ k.NameWord ∷ k.LeftBrace ∷ k.LeftParenthesis ∷ []
+
+abbrev pub con_words : List Kind
+con_words =
+    k.Dollar ∷ k.UpperName ∷ k.LowerName ∷ k.Underscore ∷ k.Hash ∷ k.LeftParenthesis ∷ k.LeftBrace ∷ k.LeftBracket ∷
+    []
+
+abbrev pub con_atom_words : List Kind
+con_atom_words =
+    k.UpperName ∷ k.LowerName ∷ k.Underscore ∷ k.Hash ∷ k.LeftParenthesis ∷ k.LeftBrace ∷ k.LeftBracket ∷ []
+
+abbrev pub field_words : List Kind
+field_words = k.UpperName ∷ k.Integer ∷ k.Hash ∷ k.LowerName ∷ []
+
+abbrev pub pat_words : List Kind
+pat_words =
+    k.UpperName ∷ k.Underscore ∷ k.LowerName ∷ k.Integer ∷ k.Dash ∷ k.StringLiteral ∷ k.LeftBracket ∷
+    k.LeftParenthesis ∷ k.LeftBrace ∷ []
+
+abbrev pub operator_words : List Kind
+operator_words =
+    k.Dash ∷ k.Integer ∷ k.StringLiteral ∷ k.LowerName ∷ k.UpperName ∷ k.AtSign ∷ k.DoubleAtSign ∷ k.LeftParenthesis ∷
+    k.LeftBrace ∷ k.KeywordLet ∷ k.XmlEmpty ∷ k.XmlOpen ∷ k.LeftBracket ∷ []
+
+abbrev pub comparison_words : List Kind
+comparison_words = k.EqualSign ∷ k.NotEqual ∷ k.LessThan ∷ k.LessOrEqual ∷ k.GreaterThan ∷ k.GreaterOrEqual ∷ []
+
+abbrev pub operand_words : List Kind
+operand_words =
+    k.Integer ∷ k.StringLiteral ∷ k.LowerName ∷ k.UpperName ∷ k.AtSign ∷ k.DoubleAtSign ∷ k.LeftParenthesis ∷
+    k.LeftBrace ∷ k.KeywordLet ∷ k.XmlEmpty ∷ k.XmlOpen ∷ k.LeftBracket ∷ []
+
+abbrev pub primary_words : List Kind
+primary_words =
+    k.Integer ∷ k.StringLiteral ∷ k.LowerName ∷ k.UpperName ∷ k.AtSign ∷ k.DoubleAtSign ∷ k.LeftParenthesis ∷
+    k.LeftBrace ∷ k.KeywordLet ∷ k.XmlEmpty ∷ k.XmlOpen ∷ []
+
+abbrev pub braced_words : List Kind
+braced_words =
+    k.LeftBracket ∷ k.UpperName ∷ k.Underscore ∷ k.LowerName ∷ k.Integer ∷ k.Dash ∷ k.StringLiteral ∷
+    k.LeftParenthesis ∷ k.LeftBrace ∷ k.KeywordFn ∷ k.KeywordCase ∷ k.KeywordIf ∷ k.AtSign ∷ k.DoubleAtSign ∷
+    k.KeywordLet ∷ k.XmlEmpty ∷ k.XmlOpen ∷ []
+
+abbrev pub sql_words : List Kind
+sql_words =
+    k.SqlNot ∷ k.Dash ∷ k.Integer ∷ k.StringLiteral ∷ k.SqlTrue ∷ k.SqlFalse ∷ k.LowerName ∷ k.UpperName ∷ k.LeftBrace ∷
+    k.LeftParenthesis ∷ []
+
+abbrev pub sql_term_words : List Kind
+sql_term_words =
+    k.Dash ∷ k.Integer ∷ k.StringLiteral ∷ k.SqlTrue ∷ k.SqlFalse ∷ k.LowerName ∷ k.UpperName ∷ k.LeftBrace ∷
+    k.LeftParenthesis ∷ []
+
+-- the words that begin a tree of a form, as `Firsts` computes them from the rules
 abbrev pub first_of : Form → List Kind
-first_of f.KindTerm = k.TypeWord ∷ k.UnitWord ∷ k.NameWord ∷ k.LeftParenthesis ∷ k.LeftBrace ∷ []
+first_of f.KindTerm = kind_words
 first_of f.KindArrow = k.Arrow ∷ []
-first_of f.KindAtom = k.TypeWord ∷ k.UnitWord ∷ k.NameWord ∷ k.LeftParenthesis ∷ k.LeftBrace ∷ []
+first_of f.KindAtom = kind_words
 first_of f.KindTimes = k.Star ∷ []
 first_of f.KindMark = k.DoubleColon ∷ []
-first_of f.Con = k.KeywordFn ∷ k.Hash ∷ k.Dollar ∷ k.LeftParenthesis ∷ k.LeftBracket ∷ k.LeftBrace ∷ k.Underscore ∷ k.LowerName ∷ k.UpperName ∷ []
+first_of f.Con =
+    k.KeywordFn ∷ k.LowerName ∷ k.LeftBracket ∷ k.Dollar ∷ k.UpperName ∷ k.Underscore ∷ k.Hash ∷ k.LeftParenthesis ∷
+    k.LeftBrace ∷ []
 first_of f.ConForall = k.DoubleColon ∷ k.TripleColon ∷ []
 first_of f.ConArrow = k.Arrow ∷ []
-first_of f.ConProduct = k.Hash ∷ k.Dollar ∷ k.LeftParenthesis ∷ k.LeftBracket ∷ k.LeftBrace ∷ k.Underscore ∷ k.LowerName ∷ k.UpperName ∷ []
+first_of f.ConProduct = con_words
 first_of f.ConTimes = k.Star ∷ []
-first_of f.ConSum = k.Hash ∷ k.Dollar ∷ k.LeftParenthesis ∷ k.LeftBracket ∷ k.LeftBrace ∷ k.Underscore ∷ k.LowerName ∷ k.UpperName ∷ []
+first_of f.ConSum = con_words
 first_of f.ConConcat = k.DoublePlus ∷ []
-first_of f.ConApply = k.Hash ∷ k.Dollar ∷ k.LeftParenthesis ∷ k.LeftBracket ∷ k.LeftBrace ∷ k.Underscore ∷ k.LowerName ∷ k.UpperName ∷ []
-first_of f.ConTerm = k.Hash ∷ k.Dollar ∷ k.LeftParenthesis ∷ k.LeftBracket ∷ k.LeftBrace ∷ k.Underscore ∷ k.LowerName ∷ k.UpperName ∷ []
+first_of f.ConApply = con_words
+first_of f.ConTerm = con_words
 first_of f.ConDollar = k.Dollar ∷ []
-first_of f.ConPrimary = k.Hash ∷ k.LeftParenthesis ∷ k.LeftBracket ∷ k.LeftBrace ∷ k.Underscore ∷ k.LowerName ∷ k.UpperName ∷ []
+first_of f.ConPrimary = con_atom_words
 first_of f.ConIndex = k.Dot ∷ []
-first_of f.ConAtom = k.Hash ∷ k.LeftParenthesis ∷ k.LeftBracket ∷ k.LeftBrace ∷ k.Underscore ∷ k.LowerName ∷ k.UpperName ∷ []
+first_of f.ConAtom = con_atom_words
 first_of f.HashName = k.UpperName ∷ k.Integer ∷ []
-first_of f.ConParenRest = k.KeywordFn ∷ k.Hash ∷ k.Dollar ∷ k.LeftParenthesis ∷ k.RightParenthesis ∷ k.LeftBracket ∷ k.LeftBrace ∷ k.Underscore ∷ k.LowerName ∷ k.UpperName ∷ []
-first_of f.ConParenEnd = k.RightParenthesis ∷ k.Comma ∷ k.DoubleColon ∷ []
+first_of f.ConParenRest =
+    k.RightParenthesis ∷ k.KeywordFn ∷ k.LowerName ∷ k.LeftBracket ∷ k.Dollar ∷ k.UpperName ∷ k.Underscore ∷ k.Hash ∷
+    k.LeftParenthesis ∷ k.LeftBrace ∷ []
+first_of f.ConParenEnd = k.RightParenthesis ∷ k.DoubleColon ∷ k.Comma ∷ []
 first_of f.ConComma = k.Comma ∷ []
-first_of f.ConFieldTypes = k.Hash ∷ k.LowerName ∷ k.UpperName ∷ k.Integer ∷ []
+first_of f.ConFieldTypes = field_words
 first_of f.ConFieldMore = k.Comma ∷ []
-first_of f.ConRowFields = k.Hash ∷ k.LowerName ∷ k.UpperName ∷ k.Integer ∷ []
+first_of f.ConRowFields = field_words
 first_of f.ConFieldValue = k.EqualSign ∷ []
 first_of f.ConRowMore = k.Comma ∷ []
-first_of f.FieldName = k.Hash ∷ k.LowerName ∷ k.UpperName ∷ k.Integer ∷ []
-first_of f.Path = k.LowerName ∷ k.UpperName ∷ []
+first_of f.FieldName = field_words
+first_of f.Path = k.UpperName ∷ k.LowerName ∷ []
 first_of f.UpperDot = k.UpperName ∷ []
 first_of f.BracketOpen = k.LeftBracket ∷ []
-first_of f.BracketRest = k.Hash ∷ k.Dollar ∷ k.LeftParenthesis ∷ k.LeftBracket ∷ k.RightBracket ∷ k.LeftBrace ∷ k.Underscore ∷ k.LowerName ∷ k.UpperName ∷ k.Integer ∷ []
-first_of f.BracketFields = k.Comma ∷ k.EqualSign ∷ k.RightBracket ∷ []
-first_of f.BracketNameRest = k.Hash ∷ k.Dollar ∷ k.LeftParenthesis ∷ k.DoublePlus ∷ k.Comma ∷ k.Dot ∷ k.EqualSign ∷ k.LeftBracket ∷ k.RightBracket ∷ k.LeftBrace ∷ k.Tilde ∷ k.Underscore ∷ k.LowerName ∷ k.UpperName ∷ []
-first_of f.BracketUpperRest = k.Comma ∷ k.Dot ∷ k.EqualSign ∷ k.RightBracket ∷ []
+first_of f.BracketRest =
+    k.RightBracket ∷ k.Integer ∷ k.LowerName ∷ k.UpperName ∷ k.Hash ∷ k.Dollar ∷ k.Underscore ∷ k.LeftParenthesis ∷
+    k.LeftBrace ∷ k.LeftBracket ∷ []
+first_of f.BracketFields = k.EqualSign ∷ k.Comma ∷ k.RightBracket ∷ []
+first_of f.BracketNameRest =
+    k.EqualSign ∷ k.Comma ∷ k.RightBracket ∷ k.Dot ∷ k.Dollar ∷ k.UpperName ∷ k.LowerName ∷ k.Underscore ∷ k.Hash ∷
+    k.LeftParenthesis ∷ k.LeftBrace ∷ k.LeftBracket ∷ k.DoublePlus ∷ k.Tilde ∷ []
+first_of f.BracketUpperRest = k.EqualSign ∷ k.Comma ∷ k.RightBracket ∷ k.Dot ∷ []
 first_of f.BracketHashRest = k.UpperName ∷ k.Integer ∷ []
-first_of f.GuardSides = k.Hash ∷ k.Dollar ∷ k.LeftParenthesis ∷ k.LeftBracket ∷ k.LeftBrace ∷ k.Underscore ∷ k.LowerName ∷ k.UpperName ∷ []
-first_of f.NameSides = k.Hash ∷ k.Dollar ∷ k.LeftParenthesis ∷ k.DoublePlus ∷ k.Dot ∷ k.LeftBracket ∷ k.LeftBrace ∷ k.Tilde ∷ k.Underscore ∷ k.LowerName ∷ k.UpperName ∷ []
+first_of f.GuardSides = con_words
+first_of f.NameSides =
+    k.Dot ∷ k.Dollar ∷ k.UpperName ∷ k.LowerName ∷ k.Underscore ∷ k.Hash ∷ k.LeftParenthesis ∷ k.LeftBrace ∷
+    k.LeftBracket ∷ k.DoublePlus ∷ k.Tilde ∷ []
 first_of f.PathSides = k.Dot ∷ []
 first_of f.IntSides = k.Integer ∷ []
-first_of f.Pat = k.LeftParenthesis ∷ k.Dash ∷ k.LeftBracket ∷ k.LeftBrace ∷ k.Underscore ∷ k.LowerName ∷ k.UpperName ∷ k.Integer ∷ k.StringLiteral ∷ []
+first_of f.Pat = pat_words
 first_of f.PatCons = k.DoubleColon ∷ []
-first_of f.PatTerm = k.LeftParenthesis ∷ k.Dash ∷ k.LeftBracket ∷ k.LeftBrace ∷ k.Underscore ∷ k.LowerName ∷ k.UpperName ∷ k.Integer ∷ k.StringLiteral ∷ []
-first_of f.PatAtom = k.LeftParenthesis ∷ k.Dash ∷ k.LeftBracket ∷ k.LeftBrace ∷ k.Underscore ∷ k.LowerName ∷ k.UpperName ∷ k.Integer ∷ k.StringLiteral ∷ []
+first_of f.PatTerm = pat_words
+first_of f.PatAtom =
+    k.Underscore ∷ k.LowerName ∷ k.Integer ∷ k.Dash ∷ k.StringLiteral ∷ k.UpperName ∷ k.LeftBracket ∷
+    k.LeftParenthesis ∷ k.LeftBrace ∷ []
 first_of f.UpperPath = k.UpperName ∷ []
 first_of f.DotUpper = k.Dot ∷ []
-first_of f.PatParenRest = k.LeftParenthesis ∷ k.RightParenthesis ∷ k.Dash ∷ k.LeftBracket ∷ k.LeftBrace ∷ k.Underscore ∷ k.LowerName ∷ k.UpperName ∷ k.Integer ∷ k.StringLiteral ∷ []
-first_of f.PatParenEnd = k.RightParenthesis ∷ k.Comma ∷ k.Colon ∷ []
+first_of f.PatParenRest =
+    k.RightParenthesis ∷ k.UpperName ∷ k.Underscore ∷ k.LowerName ∷ k.Integer ∷ k.Dash ∷ k.StringLiteral ∷
+    k.LeftBracket ∷ k.LeftParenthesis ∷ k.LeftBrace ∷ []
+first_of f.PatParenEnd = k.RightParenthesis ∷ k.Colon ∷ k.Comma ∷ []
 first_of f.PatComma = k.Comma ∷ []
-first_of f.PatRecordRest = k.Hash ∷ k.Comma ∷ k.RightBrace ∷ k.LowerName ∷ k.UpperName ∷ k.Integer ∷ []
+first_of f.PatRecordRest = k.RightBrace ∷ k.Comma ∷ k.UpperName ∷ k.Integer ∷ k.Hash ∷ k.LowerName ∷ []
 first_of f.PatFieldMore = k.Comma ∷ []
-first_of f.PatFieldNext = k.Hash ∷ k.Ellipsis ∷ k.LowerName ∷ k.UpperName ∷ k.Integer ∷ []
-first_of f.Arg = k.LeftParenthesis ∷ k.Dash ∷ k.LeftBracket ∷ k.LeftBrace ∷ k.Underscore ∷ k.LowerName ∷ k.UpperName ∷ k.Integer ∷ k.StringLiteral ∷ []
-first_of f.ArgBracketRest = k.Hash ∷ k.Dollar ∷ k.LeftParenthesis ∷ k.LeftBracket ∷ k.RightBracket ∷ k.LeftBrace ∷ k.Underscore ∷ k.LowerName ∷ k.UpperName ∷ []
-first_of f.ArgLowerRest = k.Hash ∷ k.Dollar ∷ k.LeftParenthesis ∷ k.DoublePlus ∷ k.Dot ∷ k.DoubleColon ∷ k.TripleColon ∷ k.LeftBracket ∷ k.RightBracket ∷ k.LeftBrace ∷ k.Tilde ∷ k.Underscore ∷ k.LowerName ∷ k.UpperName ∷ []
-first_of f.Exp = k.KeywordCase ∷ k.KeywordFn ∷ k.KeywordIf ∷ k.KeywordLet ∷ k.LeftParenthesis ∷ k.Dash ∷ k.XmlEmpty ∷ k.XmlOpen ∷ k.AtSign ∷ k.DoubleAtSign ∷ k.LeftBracket ∷ k.LeftBrace ∷ k.Underscore ∷ k.LowerName ∷ k.UpperName ∷ k.Integer ∷ k.StringLiteral ∷ []
+first_of f.PatFieldNext = k.Ellipsis ∷ k.UpperName ∷ k.Integer ∷ k.Hash ∷ k.LowerName ∷ []
+first_of f.Arg =
+    k.Underscore ∷ k.LowerName ∷ k.Integer ∷ k.Dash ∷ k.StringLiteral ∷ k.UpperName ∷ k.LeftParenthesis ∷ k.LeftBrace ∷
+    k.LeftBracket ∷ []
+first_of f.ArgBracketRest =
+    k.RightBracket ∷ k.LowerName ∷ k.Dollar ∷ k.UpperName ∷ k.Underscore ∷ k.Hash ∷ k.LeftParenthesis ∷ k.LeftBrace ∷
+    k.LeftBracket ∷ []
+first_of f.ArgLowerRest =
+    k.RightBracket ∷ k.DoubleColon ∷ k.TripleColon ∷ k.Dot ∷ k.Dollar ∷ k.UpperName ∷ k.LowerName ∷ k.Underscore ∷
+    k.Hash ∷ k.LeftParenthesis ∷ k.LeftBrace ∷ k.LeftBracket ∷ k.DoublePlus ∷ k.Tilde ∷ []
+first_of f.Exp =
+    k.UpperName ∷ k.Underscore ∷ k.LowerName ∷ k.Integer ∷ k.Dash ∷ k.StringLiteral ∷ k.LeftBracket ∷
+    k.LeftParenthesis ∷ k.LeftBrace ∷ k.KeywordFn ∷ k.KeywordCase ∷ k.KeywordIf ∷ k.AtSign ∷ k.DoubleAtSign ∷
+    k.KeywordLet ∷ k.XmlEmpty ∷ k.XmlOpen ∷ []
 first_of f.ExpBindRest = k.LeftArrow ∷ []
 first_of f.ExpThen = k.Semicolon ∷ []
-first_of f.Term = k.KeywordCase ∷ k.KeywordFn ∷ k.KeywordIf ∷ k.KeywordLet ∷ k.LeftParenthesis ∷ k.Dash ∷ k.XmlEmpty ∷ k.XmlOpen ∷ k.AtSign ∷ k.DoubleAtSign ∷ k.LeftBracket ∷ k.LeftBrace ∷ k.LowerName ∷ k.UpperName ∷ k.Integer ∷ k.StringLiteral ∷ []
+first_of f.Term =
+    k.KeywordFn ∷ k.KeywordCase ∷ k.KeywordIf ∷ k.Dash ∷ k.Integer ∷ k.StringLiteral ∷ k.LowerName ∷ k.UpperName ∷
+    k.AtSign ∷ k.DoubleAtSign ∷ k.LeftParenthesis ∷ k.LeftBrace ∷ k.KeywordLet ∷ k.XmlEmpty ∷ k.XmlOpen ∷
+    k.LeftBracket ∷ []
 first_of f.CaseBar = k.Bar ∷ []
 first_of f.CaseMore = k.Bar ∷ []
-first_of f.Body = k.KeywordIf ∷ k.KeywordLet ∷ k.LeftParenthesis ∷ k.Dash ∷ k.XmlEmpty ∷ k.XmlOpen ∷ k.AtSign ∷ k.DoubleAtSign ∷ k.LeftBracket ∷ k.LeftBrace ∷ k.LowerName ∷ k.UpperName ∷ k.Integer ∷ k.StringLiteral ∷ []
-first_of f.Or = k.KeywordLet ∷ k.LeftParenthesis ∷ k.Dash ∷ k.XmlEmpty ∷ k.XmlOpen ∷ k.AtSign ∷ k.DoubleAtSign ∷ k.LeftBracket ∷ k.LeftBrace ∷ k.LowerName ∷ k.UpperName ∷ k.Integer ∷ k.StringLiteral ∷ []
+first_of f.Body =
+    k.KeywordIf ∷ k.Dash ∷ k.Integer ∷ k.StringLiteral ∷ k.LowerName ∷ k.UpperName ∷ k.AtSign ∷ k.DoubleAtSign ∷
+    k.LeftParenthesis ∷ k.LeftBrace ∷ k.KeywordLet ∷ k.XmlEmpty ∷ k.XmlOpen ∷ k.LeftBracket ∷ []
+first_of f.Or = operator_words
 first_of f.OrMore = k.DoubleBar ∷ []
-first_of f.And = k.KeywordLet ∷ k.LeftParenthesis ∷ k.Dash ∷ k.XmlEmpty ∷ k.XmlOpen ∷ k.AtSign ∷ k.DoubleAtSign ∷ k.LeftBracket ∷ k.LeftBrace ∷ k.LowerName ∷ k.UpperName ∷ k.Integer ∷ k.StringLiteral ∷ []
+first_of f.And = operator_words
 first_of f.AndMore = k.DoubleAmpersand ∷ []
-first_of f.Compare = k.KeywordLet ∷ k.LeftParenthesis ∷ k.Dash ∷ k.XmlEmpty ∷ k.XmlOpen ∷ k.AtSign ∷ k.DoubleAtSign ∷ k.LeftBracket ∷ k.LeftBrace ∷ k.LowerName ∷ k.UpperName ∷ k.Integer ∷ k.StringLiteral ∷ []
-first_of f.CompareMore = k.LessThan ∷ k.LessOrEqual ∷ k.NotEqual ∷ k.EqualSign ∷ k.GreaterThan ∷ k.GreaterOrEqual ∷ []
-first_of f.Cons = k.KeywordLet ∷ k.LeftParenthesis ∷ k.Dash ∷ k.XmlEmpty ∷ k.XmlOpen ∷ k.AtSign ∷ k.DoubleAtSign ∷ k.LeftBracket ∷ k.LeftBrace ∷ k.LowerName ∷ k.UpperName ∷ k.Integer ∷ k.StringLiteral ∷ []
+first_of f.Compare = operator_words
+first_of f.CompareMore = comparison_words
+first_of f.Cons = operator_words
 first_of f.ConsMore = k.DoubleColon ∷ []
-first_of f.Join = k.KeywordLet ∷ k.LeftParenthesis ∷ k.Dash ∷ k.XmlEmpty ∷ k.XmlOpen ∷ k.AtSign ∷ k.DoubleAtSign ∷ k.LeftBracket ∷ k.LeftBrace ∷ k.LowerName ∷ k.UpperName ∷ k.Integer ∷ k.StringLiteral ∷ []
-first_of f.JoinMore = k.DoublePlus ∷ k.Caret ∷ []
-first_of f.Sum = k.KeywordLet ∷ k.LeftParenthesis ∷ k.Dash ∷ k.XmlEmpty ∷ k.XmlOpen ∷ k.AtSign ∷ k.DoubleAtSign ∷ k.LeftBracket ∷ k.LeftBrace ∷ k.LowerName ∷ k.UpperName ∷ k.Integer ∷ k.StringLiteral ∷ []
+first_of f.Join = operator_words
+first_of f.JoinMore = k.Caret ∷ k.DoublePlus ∷ []
+first_of f.Sum = operator_words
 first_of f.SumMore = k.Plus ∷ k.Dash ∷ []
-first_of f.Product = k.KeywordLet ∷ k.LeftParenthesis ∷ k.Dash ∷ k.XmlEmpty ∷ k.XmlOpen ∷ k.AtSign ∷ k.DoubleAtSign ∷ k.LeftBracket ∷ k.LeftBrace ∷ k.LowerName ∷ k.UpperName ∷ k.Integer ∷ k.StringLiteral ∷ []
-first_of f.ProductMore = k.Percent ∷ k.Star ∷ k.Slash ∷ []
-first_of f.Sign = k.KeywordLet ∷ k.LeftParenthesis ∷ k.Dash ∷ k.XmlEmpty ∷ k.XmlOpen ∷ k.AtSign ∷ k.DoubleAtSign ∷ k.LeftBracket ∷ k.LeftBrace ∷ k.LowerName ∷ k.UpperName ∷ k.Integer ∷ k.StringLiteral ∷ []
-first_of f.Cut = k.KeywordLet ∷ k.LeftParenthesis ∷ k.XmlEmpty ∷ k.XmlOpen ∷ k.AtSign ∷ k.DoubleAtSign ∷ k.LeftBracket ∷ k.LeftBrace ∷ k.LowerName ∷ k.UpperName ∷ k.Integer ∷ k.StringLiteral ∷ []
+first_of f.Product = operator_words
+first_of f.ProductMore = k.Star ∷ k.Slash ∷ k.Percent ∷ []
+first_of f.Sign = operator_words
+first_of f.Cut = operand_words
 first_of f.CutMore = k.DoubleDash ∷ k.TripleDash ∷ []
-first_of f.Apply = k.KeywordLet ∷ k.LeftParenthesis ∷ k.XmlEmpty ∷ k.XmlOpen ∷ k.AtSign ∷ k.DoubleAtSign ∷ k.LeftBracket ∷ k.LeftBrace ∷ k.LowerName ∷ k.UpperName ∷ k.Integer ∷ k.StringLiteral ∷ []
-first_of f.Argument = k.KeywordLet ∷ k.Exclamation ∷ k.LeftParenthesis ∷ k.XmlEmpty ∷ k.XmlOpen ∷ k.AtSign ∷ k.DoubleAtSign ∷ k.LeftBracket ∷ k.LeftBrace ∷ k.LowerName ∷ k.UpperName ∷ k.Integer ∷ k.StringLiteral ∷ []
-first_of f.ArgumentRest = k.KeywordFn ∷ k.Hash ∷ k.Dollar ∷ k.LeftParenthesis ∷ k.LeftBracket ∷ k.RightBracket ∷ k.LeftBrace ∷ k.Underscore ∷ k.LowerName ∷ k.UpperName ∷ []
-first_of f.Atom = k.KeywordLet ∷ k.LeftParenthesis ∷ k.XmlEmpty ∷ k.XmlOpen ∷ k.AtSign ∷ k.DoubleAtSign ∷ k.LeftBracket ∷ k.LeftBrace ∷ k.LowerName ∷ k.UpperName ∷ k.Integer ∷ k.StringLiteral ∷ []
-first_of f.Operand = k.KeywordLet ∷ k.LeftParenthesis ∷ k.XmlEmpty ∷ k.XmlOpen ∷ k.AtSign ∷ k.DoubleAtSign ∷ k.LeftBrace ∷ k.LowerName ∷ k.UpperName ∷ k.Integer ∷ k.StringLiteral ∷ []
+first_of f.Apply = operand_words
+first_of f.Argument =
+    k.Integer ∷ k.StringLiteral ∷ k.LowerName ∷ k.UpperName ∷ k.AtSign ∷ k.DoubleAtSign ∷ k.LeftParenthesis ∷
+    k.LeftBrace ∷ k.KeywordLet ∷ k.XmlEmpty ∷ k.XmlOpen ∷ k.LeftBracket ∷ k.Exclamation ∷ []
+first_of f.ArgumentRest =
+    k.RightBracket ∷ k.KeywordFn ∷ k.LowerName ∷ k.LeftBracket ∷ k.Dollar ∷ k.UpperName ∷ k.Underscore ∷ k.Hash ∷
+    k.LeftParenthesis ∷ k.LeftBrace ∷ []
+first_of f.Atom = operand_words
+first_of f.Operand = primary_words
 first_of f.Dot = k.Dot ∷ []
-first_of f.Primary = k.KeywordLet ∷ k.LeftParenthesis ∷ k.XmlEmpty ∷ k.XmlOpen ∷ k.AtSign ∷ k.DoubleAtSign ∷ k.LeftBrace ∷ k.LowerName ∷ k.UpperName ∷ k.Integer ∷ k.StringLiteral ∷ []
+first_of f.Primary = primary_words
 first_of f.AnyName = k.LowerName ∷ k.UpperName ∷ []
-first_of f.ParenRest = k.KeywordCase ∷ k.KeywordFn ∷ k.KeywordIf ∷ k.KeywordLet ∷ k.SqlDelete ∷ k.SqlInsert ∷ k.SqlSelect ∷ k.SqlUpdate ∷ k.SqlWhere ∷ k.LeftParenthesis ∷ k.RightParenthesis ∷ k.Dash ∷ k.XmlEmpty ∷ k.XmlOpen ∷ k.AtSign ∷ k.DoubleAtSign ∷ k.LeftBracket ∷ k.LeftBrace ∷ k.Underscore ∷ k.LowerName ∷ k.UpperName ∷ k.Integer ∷ k.StringLiteral ∷ []
-first_of f.ParenEnd = k.RightParenthesis ∷ k.Comma ∷ k.Colon ∷ []
+first_of f.ParenRest =
+    k.RightParenthesis ∷ k.UpperName ∷ k.Underscore ∷ k.LowerName ∷ k.Integer ∷ k.Dash ∷ k.StringLiteral ∷
+    k.LeftBracket ∷ k.LeftParenthesis ∷ k.LeftBrace ∷ k.KeywordFn ∷ k.KeywordCase ∷ k.KeywordIf ∷ k.AtSign ∷
+    k.DoubleAtSign ∷ k.KeywordLet ∷ k.XmlEmpty ∷ k.XmlOpen ∷ k.SqlSelect ∷ k.SqlInsert ∷ k.SqlUpdate ∷ k.SqlDelete ∷
+    k.SqlWhere ∷ []
+first_of f.ParenEnd = k.RightParenthesis ∷ k.Colon ∷ k.Comma ∷ []
 first_of f.ExpComma = k.Comma ∷ []
-first_of f.ExpFields = k.Hash ∷ k.LowerName ∷ k.UpperName ∷ k.Integer ∷ []
+first_of f.ExpFields = field_words
 first_of f.ExpFieldMore = k.Comma ∷ []
-first_of f.Node = k.LeftBrace ∷ k.TextRun ∷ k.TagOpen ∷ []
-first_of f.NodeBraceRest = k.KeywordCase ∷ k.KeywordFn ∷ k.KeywordIf ∷ k.KeywordLet ∷ k.LeftParenthesis ∷ k.Dash ∷ k.XmlEmpty ∷ k.XmlOpen ∷ k.AtSign ∷ k.DoubleAtSign ∷ k.LeftBracket ∷ k.LeftBrace ∷ k.Underscore ∷ k.LowerName ∷ k.UpperName ∷ k.Integer ∷ k.StringLiteral ∷ []
+first_of f.Node = k.TextRun ∷ k.LeftBrace ∷ k.TagOpen ∷ []
+first_of f.NodeBraceRest = braced_words
 first_of f.Splice = k.LeftBracket ∷ []
 first_of f.TagName = k.LeftBrace ∷ []
-first_of f.ElementEnd = k.GreaterThan ∷ k.TagSelfClose ∷ []
+first_of f.ElementEnd = k.TagSelfClose ∷ k.GreaterThan ∷ []
 first_of f.Attribute = k.AttributeName ∷ []
-first_of f.AttributeValue = k.LeftBrace ∷ k.Integer ∷ k.StringLiteral ∷ []
-first_of f.Decl = k.KeywordCon ∷ k.KeywordCookie ∷ k.KeywordDatatype ∷ k.KeywordFun ∷ k.KeywordSequence ∷ k.KeywordTable ∷ k.KeywordType ∷ k.KeywordVal ∷ []
-first_of f.LetDecl = k.KeywordFun ∷ k.KeywordVal ∷ []
-first_of f.ValRest = k.KeywordRec ∷ k.LowerName ∷ []
+first_of f.AttributeValue = k.StringLiteral ∷ k.Integer ∷ k.LeftBrace ∷ []
+first_of f.Decl =
+    k.KeywordVal ∷ k.KeywordFun ∷ k.KeywordCon ∷ k.KeywordType ∷ k.KeywordDatatype ∷ k.KeywordTable ∷
+    k.KeywordSequence ∷ k.KeywordCookie ∷ []
+first_of f.LetDecl = k.KeywordVal ∷ k.KeywordFun ∷ []
+first_of f.ValRest = k.LowerName ∷ k.KeywordRec ∷ []
 first_of f.RecMore = k.KeywordAnd ∷ []
 first_of f.FunMore = k.KeywordAnd ∷ []
 first_of f.TypeMark = k.Colon ∷ []
@@ -283,11 +398,11 @@ first_of f.Constructor = k.UpperName ∷ []
 first_of f.ConstructorOf = k.KeywordOf ∷ []
 first_of f.ConstructorMore = k.Bar ∷ []
 first_of f.KeyMark = k.SqlPrimary ∷ []
-first_of f.KeyColumns = k.LeftParenthesis ∷ k.UpperName ∷ []
+first_of f.KeyColumns = k.UpperName ∷ k.LeftParenthesis ∷ []
 first_of f.ColumnList = k.LeftParenthesis ∷ []
 first_of f.ColumnMore = k.Comma ∷ []
 first_of f.InterfaceItem = k.KeywordVal ∷ []
-first_of f.Sql = k.SqlDelete ∷ k.SqlInsert ∷ k.SqlSelect ∷ k.SqlUpdate ∷ k.SqlWhere ∷ []
+first_of f.Sql = k.SqlSelect ∷ k.SqlInsert ∷ k.SqlUpdate ∷ k.SqlDelete ∷ k.SqlWhere ∷ []
 first_of f.Where = k.SqlWhere ∷ []
 first_of f.OrderBy = k.SqlOrder ∷ []
 first_of f.Limit = k.SqlLimit ∷ []
@@ -296,33 +411,41 @@ first_of f.ValueList = k.LeftParenthesis ∷ []
 first_of f.ValueMore = k.Comma ∷ []
 first_of f.Assignment = k.UpperName ∷ []
 first_of f.AssignmentMore = k.Comma ∷ []
-first_of f.Selection = k.SqlFalse ∷ k.SqlNot ∷ k.SqlTrue ∷ k.LeftParenthesis ∷ k.Star ∷ k.Dash ∷ k.LeftBrace ∷ k.LowerName ∷ k.UpperName ∷ k.Integer ∷ k.StringLiteral ∷ []
+first_of f.Selection =
+    k.Star ∷ k.LowerName ∷ k.UpperName ∷ k.SqlNot ∷ k.Dash ∷ k.Integer ∷ k.StringLiteral ∷ k.SqlTrue ∷ k.SqlFalse ∷
+    k.LeftBrace ∷ k.LeftParenthesis ∷ []
 first_of f.ItemMore = k.Comma ∷ []
-first_of f.Item = k.SqlFalse ∷ k.SqlNot ∷ k.SqlTrue ∷ k.LeftParenthesis ∷ k.Dash ∷ k.LeftBrace ∷ k.LowerName ∷ k.UpperName ∷ k.Integer ∷ k.StringLiteral ∷ []
-first_of f.ItemUpperRest = k.SqlAnd ∷ k.SqlAs ∷ k.SqlOr ∷ k.Percent ∷ k.Star ∷ k.Plus ∷ k.Dash ∷ k.Dot ∷ k.Slash ∷ k.LessThan ∷ k.LessOrEqual ∷ k.NotEqual ∷ k.EqualSign ∷ k.GreaterThan ∷ k.GreaterOrEqual ∷ []
-first_of f.ItemDot = k.Star ∷ k.LeftBrace ∷ k.UpperName ∷ []
+first_of f.Item =
+    k.LowerName ∷ k.UpperName ∷ k.SqlNot ∷ k.Dash ∷ k.Integer ∷ k.StringLiteral ∷ k.SqlTrue ∷ k.SqlFalse ∷ k.LeftBrace ∷
+    k.LeftParenthesis ∷ []
+first_of f.ItemUpperRest =
+    k.Dot ∷ k.Star ∷ k.Slash ∷ k.Percent ∷ k.Plus ∷ k.Dash ∷ k.EqualSign ∷ k.NotEqual ∷ k.LessThan ∷ k.LessOrEqual ∷
+    k.GreaterThan ∷ k.GreaterOrEqual ∷ k.SqlAnd ∷ k.SqlOr ∷ k.SqlAs ∷ []
+first_of f.ItemDot = k.UpperName ∷ k.Star ∷ k.LeftBrace ∷ []
 first_of f.ItemBracesRow = k.LeftBrace ∷ []
-first_of f.ItemNamed = k.SqlAnd ∷ k.SqlAs ∷ k.SqlOr ∷ k.Percent ∷ k.Star ∷ k.Plus ∷ k.Dash ∷ k.Slash ∷ k.LessThan ∷ k.LessOrEqual ∷ k.NotEqual ∷ k.EqualSign ∷ k.GreaterThan ∷ k.GreaterOrEqual ∷ []
-first_of f.Source = k.LeftBrace ∷ k.LowerName ∷ k.UpperName ∷ []
+first_of f.ItemNamed =
+    k.Star ∷ k.Slash ∷ k.Percent ∷ k.Plus ∷ k.Dash ∷ k.EqualSign ∷ k.NotEqual ∷ k.LessThan ∷ k.LessOrEqual ∷
+    k.GreaterThan ∷ k.GreaterOrEqual ∷ k.SqlAnd ∷ k.SqlOr ∷ k.SqlAs ∷ []
+first_of f.Source = k.UpperName ∷ k.LowerName ∷ k.LeftBrace ∷ []
 first_of f.SourceMore = k.Comma ∷ []
 first_of f.AsMark = k.SqlAs ∷ []
-first_of f.TableRef = k.LeftBrace ∷ k.LowerName ∷ k.UpperName ∷ []
+first_of f.TableRef = k.UpperName ∷ k.LowerName ∷ k.LeftBrace ∷ []
 first_of f.TableBraces = k.LeftBrace ∷ []
 first_of f.TableBracesExp = k.LeftBrace ∷ []
-first_of f.Order = k.SqlFalse ∷ k.SqlNot ∷ k.SqlTrue ∷ k.LeftParenthesis ∷ k.Dash ∷ k.LeftBrace ∷ k.LowerName ∷ k.UpperName ∷ k.Integer ∷ k.StringLiteral ∷ []
+first_of f.Order = sql_words
 first_of f.Direction = k.SqlAsc ∷ k.SqlDesc ∷ []
 first_of f.OrderMore = k.Comma ∷ []
-first_of f.Count = k.LeftBrace ∷ k.Integer ∷ []
-first_of f.SqlOr = k.SqlFalse ∷ k.SqlNot ∷ k.SqlTrue ∷ k.LeftParenthesis ∷ k.Dash ∷ k.LeftBrace ∷ k.LowerName ∷ k.UpperName ∷ k.Integer ∷ k.StringLiteral ∷ []
+first_of f.Count = k.Integer ∷ k.LeftBrace ∷ []
+first_of f.SqlOr = sql_words
 first_of f.SqlOrMore = k.SqlOr ∷ []
-first_of f.SqlAnd = k.SqlFalse ∷ k.SqlNot ∷ k.SqlTrue ∷ k.LeftParenthesis ∷ k.Dash ∷ k.LeftBrace ∷ k.LowerName ∷ k.UpperName ∷ k.Integer ∷ k.StringLiteral ∷ []
+first_of f.SqlAnd = sql_words
 first_of f.SqlAndMore = k.SqlAnd ∷ []
-first_of f.SqlNot = k.SqlFalse ∷ k.SqlNot ∷ k.SqlTrue ∷ k.LeftParenthesis ∷ k.Dash ∷ k.LeftBrace ∷ k.LowerName ∷ k.UpperName ∷ k.Integer ∷ k.StringLiteral ∷ []
-first_of f.SqlCompare = k.SqlFalse ∷ k.SqlTrue ∷ k.LeftParenthesis ∷ k.Dash ∷ k.LeftBrace ∷ k.LowerName ∷ k.UpperName ∷ k.Integer ∷ k.StringLiteral ∷ []
-first_of f.SqlCompareMore = k.LessThan ∷ k.LessOrEqual ∷ k.NotEqual ∷ k.EqualSign ∷ k.GreaterThan ∷ k.GreaterOrEqual ∷ []
-first_of f.SqlSum = k.SqlFalse ∷ k.SqlTrue ∷ k.LeftParenthesis ∷ k.Dash ∷ k.LeftBrace ∷ k.LowerName ∷ k.UpperName ∷ k.Integer ∷ k.StringLiteral ∷ []
+first_of f.SqlNot = sql_words
+first_of f.SqlCompare = sql_term_words
+first_of f.SqlCompareMore = comparison_words
+first_of f.SqlSum = sql_term_words
 first_of f.SqlSumMore = k.Plus ∷ k.Dash ∷ []
-first_of f.SqlProduct = k.SqlFalse ∷ k.SqlTrue ∷ k.LeftParenthesis ∷ k.Dash ∷ k.LeftBrace ∷ k.LowerName ∷ k.UpperName ∷ k.Integer ∷ k.StringLiteral ∷ []
-first_of f.SqlProductMore = k.Percent ∷ k.Star ∷ k.Slash ∷ []
-first_of f.SqlTerm = k.SqlFalse ∷ k.SqlTrue ∷ k.LeftParenthesis ∷ k.Dash ∷ k.LeftBrace ∷ k.LowerName ∷ k.UpperName ∷ k.Integer ∷ k.StringLiteral ∷ []
-first_of f.SqlBraceRest = k.KeywordCase ∷ k.KeywordFn ∷ k.KeywordIf ∷ k.KeywordLet ∷ k.LeftParenthesis ∷ k.Dash ∷ k.XmlEmpty ∷ k.XmlOpen ∷ k.AtSign ∷ k.DoubleAtSign ∷ k.LeftBracket ∷ k.LeftBrace ∷ k.Underscore ∷ k.LowerName ∷ k.UpperName ∷ k.Integer ∷ k.StringLiteral ∷ []
+first_of f.SqlProduct = sql_term_words
+first_of f.SqlProductMore = k.Star ∷ k.Slash ∷ k.Percent ∷ []
+first_of f.SqlTerm = sql_term_words
+first_of f.SqlBraceRest = braced_words

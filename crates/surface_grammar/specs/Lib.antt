@@ -4,6 +4,7 @@ pub mod Forms
 pub mod Sides
 pub mod Fronts
 pub mod Trees
+pub mod Firsts
 pub mod Leads
 pub mod Listings
 pub mod Refusals

@@ -24,7 +24,9 @@ Allows room p ts place = (n : Node) × (after : List Token) × Whole room p n ×
 
 -- some tree begins with these tokens, and then has the token at the place, or ends where they end
 abbrev pub GoesOn : ℕ → Part → List Token → ℕ → Type 0
-GoesOn room p ts place = (n : Node) × (after : List Token) × Whole room p n × (spell n ≡ take place ts ++ after) × (take 1 after ≡ take 1 (drop place ts))
+GoesOn room p ts place =
+    (n : Node) × (after : List Token) × Whole room p n × (spell n ≡ take place ts ++ after)
+    × (take 1 after ≡ take 1 (drop place ts))
 
 -- the place of the first token, or of the end, that no tree so deep allows after the tokens before it
 abbrev pub RefusedAt : ℕ → Part → List Token → ℕ → Type 0

@@ -37,8 +37,11 @@ kinds_body kind.KindMark = Word k.DoubleColon ∷ One f.KindTerm ∷ []
 
 -- the parts of the rules of constructors
 abbrev pub constructors_body : ConRule → List Part
-constructors_body con.ConLambda = Word k.KeywordFn ∷ Word k.LowerName ∷ Maybe f.KindMark ∷ Word k.DoubleArrow ∷ One f.Con ∷ []
-constructors_body con.ConLower = Word k.LowerName ∷ Maybe f.ConForall ∷ Many f.ConIndex ∷ Many f.ConTerm ∷ Many f.ConConcat ∷ Many f.ConTimes ∷ Maybe f.ConArrow ∷ []
+constructors_body con.ConLambda =
+    Word k.KeywordFn ∷ Word k.LowerName ∷ Maybe f.KindMark ∷ Word k.DoubleArrow ∷ One f.Con ∷ []
+constructors_body con.ConLower =
+    Word k.LowerName ∷ Maybe f.ConForall ∷ Many f.ConIndex ∷ Many f.ConTerm ∷ Many f.ConConcat ∷ Many f.ConTimes ∷
+    Maybe f.ConArrow ∷ []
 constructors_body con.ConBracket = One f.BracketOpen ∷ One f.BracketRest ∷ []
 constructors_body con.ConOther = One f.ConProduct ∷ Maybe f.ConArrow ∷ []
 constructors_body con.ConExplicit = Word k.DoubleColon ∷ One f.KindAtom ∷ Word k.Arrow ∷ One f.Con ∷ []
@@ -80,23 +83,36 @@ constructors_body con.FieldLower = Word k.LowerName ∷ []
 constructors_body con.Path = Many f.UpperDot ∷ Word k.LowerName ∷ []
 constructors_body con.UpperDot = Word k.UpperName ∷ Word k.Dot ∷ []
 constructors_body con.BracketOpen = Word k.LeftBracket ∷ []
-constructors_body con.BracketEmpty = Word k.RightBracket ∷ Many f.ConIndex ∷ Many f.ConTerm ∷ Many f.ConConcat ∷ Many f.ConTimes ∷ Maybe f.ConArrow ∷ []
-constructors_body con.BracketInt = Word k.Integer ∷ One f.BracketFields ∷ Many f.ConIndex ∷ Many f.ConTerm ∷ Many f.ConConcat ∷ Many f.ConTimes ∷ Maybe f.ConArrow ∷ []
+constructors_body con.BracketEmpty =
+    Word k.RightBracket ∷ Many f.ConIndex ∷ Many f.ConTerm ∷ Many f.ConConcat ∷ Many f.ConTimes ∷ Maybe f.ConArrow ∷
+    []
+constructors_body con.BracketInt =
+    Word k.Integer ∷ One f.BracketFields ∷ Many f.ConIndex ∷ Many f.ConTerm ∷ Many f.ConConcat ∷ Many f.ConTimes ∷
+    Maybe f.ConArrow ∷ []
 constructors_body con.BracketLower = Word k.LowerName ∷ One f.BracketNameRest ∷ []
 constructors_body con.BracketUpper = Word k.UpperName ∷ One f.BracketUpperRest ∷ []
 constructors_body con.BracketHash = Word k.Hash ∷ One f.BracketHashRest ∷ []
 constructors_body con.BracketGuard = One f.GuardSides ∷ Word k.DoubleArrow ∷ One f.Con ∷ []
 constructors_body con.BracketFields = Maybe f.ConFieldValue ∷ Many f.ConRowMore ∷ Word k.RightBracket ∷ []
-constructors_body con.BracketNameRow = One f.BracketFields ∷ Many f.ConIndex ∷ Many f.ConTerm ∷ Many f.ConConcat ∷ Many f.ConTimes ∷ Maybe f.ConArrow ∷ []
+constructors_body con.BracketNameRow =
+    One f.BracketFields ∷ Many f.ConIndex ∷ Many f.ConTerm ∷ Many f.ConConcat ∷ Many f.ConTimes ∷ Maybe f.ConArrow ∷
+    []
 constructors_body con.BracketNameGuard = One f.NameSides ∷ Word k.DoubleArrow ∷ One f.Con ∷ []
-constructors_body con.BracketUpperRow = One f.BracketFields ∷ Many f.ConIndex ∷ Many f.ConTerm ∷ Many f.ConConcat ∷ Many f.ConTimes ∷ Maybe f.ConArrow ∷ []
+constructors_body con.BracketUpperRow =
+    One f.BracketFields ∷ Many f.ConIndex ∷ Many f.ConTerm ∷ Many f.ConConcat ∷ Many f.ConTimes ∷ Maybe f.ConArrow ∷
+    []
 constructors_body con.BracketUpperGuard = One f.PathSides ∷ Word k.DoubleArrow ∷ One f.Con ∷ []
 constructors_body con.BracketHashUpper = Word k.UpperName ∷ One f.BracketNameRest ∷ []
 constructors_body con.BracketHashInt = One f.IntSides ∷ Word k.DoubleArrow ∷ One f.Con ∷ []
 constructors_body con.GuardSides = One f.ConSum ∷ Word k.Tilde ∷ One f.ConSum ∷ Word k.RightBracket ∷ []
-constructors_body con.NameSides = Many f.ConIndex ∷ Many f.ConTerm ∷ Many f.ConConcat ∷ Word k.Tilde ∷ One f.ConSum ∷ Word k.RightBracket ∷ []
-constructors_body con.PathSides = Word k.Dot ∷ One f.Path ∷ Many f.ConIndex ∷ Many f.ConTerm ∷ Many f.ConConcat ∷ Word k.Tilde ∷ One f.ConSum ∷ Word k.RightBracket ∷ []
-constructors_body con.IntSides = Word k.Integer ∷ Many f.ConIndex ∷ Many f.ConTerm ∷ Many f.ConConcat ∷ Word k.Tilde ∷ One f.ConSum ∷ Word k.RightBracket ∷ []
+constructors_body con.NameSides =
+    Many f.ConIndex ∷ Many f.ConTerm ∷ Many f.ConConcat ∷ Word k.Tilde ∷ One f.ConSum ∷ Word k.RightBracket ∷ []
+constructors_body con.PathSides =
+    Word k.Dot ∷ One f.Path ∷ Many f.ConIndex ∷ Many f.ConTerm ∷ Many f.ConConcat ∷ Word k.Tilde ∷ One f.ConSum ∷
+    Word k.RightBracket ∷ []
+constructors_body con.IntSides =
+    Word k.Integer ∷ Many f.ConIndex ∷ Many f.ConTerm ∷ Many f.ConConcat ∷ Word k.Tilde ∷ One f.ConSum ∷
+    Word k.RightBracket ∷ []
 
 -- the parts of the rules of patterns
 abbrev pub patterns_body : PatRule → List Part
@@ -123,7 +139,8 @@ patterns_body pat.PatTuple = Word k.Comma ∷ One f.Pat ∷ Many f.PatComma ∷ 
 patterns_body pat.PatComma = Word k.Comma ∷ One f.Pat ∷ []
 patterns_body pat.PatRecordEmpty = Word k.RightBrace ∷ []
 patterns_body pat.PatRecordDots = Word k.Comma ∷ Word k.Ellipsis ∷ Word k.RightBrace ∷ []
-patterns_body pat.PatRecordFields = One f.FieldName ∷ Word k.EqualSign ∷ One f.Pat ∷ Maybe f.PatFieldMore ∷ Word k.RightBrace ∷ []
+patterns_body pat.PatRecordFields =
+    One f.FieldName ∷ Word k.EqualSign ∷ One f.Pat ∷ Maybe f.PatFieldMore ∷ Word k.RightBrace ∷ []
 patterns_body pat.PatFieldMore = Word k.Comma ∷ One f.PatFieldNext ∷ []
 patterns_body pat.PatFieldDots = Word k.Ellipsis ∷ []
 patterns_body pat.PatFieldNamed = One f.FieldName ∷ Word k.EqualSign ∷ One f.Pat ∷ Maybe f.PatFieldMore ∷ []
@@ -138,7 +155,8 @@ parameters_body arg.ArgGuard = One f.ConSum ∷ Word k.Tilde ∷ One f.ConSum �
 parameters_body arg.ArgType = Word k.RightBracket ∷ []
 parameters_body arg.ArgExplicit = Word k.DoubleColon ∷ One f.KindTerm ∷ Word k.RightBracket ∷ []
 parameters_body arg.ArgImplicit = Word k.TripleColon ∷ One f.KindTerm ∷ Word k.RightBracket ∷ []
-parameters_body arg.ArgLowerGuard = Many f.ConIndex ∷ Many f.ConTerm ∷ Many f.ConConcat ∷ Word k.Tilde ∷ One f.ConSum ∷ Word k.RightBracket ∷ []
+parameters_body arg.ArgLowerGuard =
+    Many f.ConIndex ∷ Many f.ConTerm ∷ Many f.ConConcat ∷ Word k.Tilde ∷ One f.ConSum ∷ Word k.RightBracket ∷ []
 
 -- the parts of the rules of expressions
 abbrev pub expressions_body : ExpRule → List Part
@@ -147,12 +165,16 @@ expressions_body exp.ExpPlain = One f.Term ∷ Maybe f.ExpThen ∷ []
 expressions_body exp.ExpBindRest = Word k.LeftArrow ∷ One f.Body ∷ Word k.Semicolon ∷ One f.Exp ∷ []
 expressions_body exp.ExpThen = Word k.Semicolon ∷ One f.Exp ∷ []
 expressions_body exp.TermLambda = Word k.KeywordFn ∷ One f.Arg ∷ Many f.Arg ∷ Word k.DoubleArrow ∷ One f.Exp ∷ []
-expressions_body exp.TermCase = Word k.KeywordCase ∷ One f.Exp ∷ Word k.KeywordOf ∷ Maybe f.CaseBar ∷ One f.Pat ∷ Word k.DoubleArrow ∷ One f.Exp ∷ Many f.CaseMore ∷ []
-expressions_body exp.TermIf = Word k.KeywordIf ∷ One f.Exp ∷ Word k.KeywordThen ∷ One f.Exp ∷ Word k.KeywordElse ∷ One f.Term ∷ []
+expressions_body exp.TermCase =
+    Word k.KeywordCase ∷ One f.Exp ∷ Word k.KeywordOf ∷ Maybe f.CaseBar ∷ One f.Pat ∷ Word k.DoubleArrow ∷ One f.Exp ∷
+    Many f.CaseMore ∷ []
+expressions_body exp.TermIf =
+    Word k.KeywordIf ∷ One f.Exp ∷ Word k.KeywordThen ∷ One f.Exp ∷ Word k.KeywordElse ∷ One f.Term ∷ []
 expressions_body exp.TermOr = One f.Or ∷ []
 expressions_body exp.CaseBar = Word k.Bar ∷ []
 expressions_body exp.CaseMore = Word k.Bar ∷ One f.Pat ∷ Word k.DoubleArrow ∷ One f.Exp ∷ []
-expressions_body exp.BodyIf = Word k.KeywordIf ∷ One f.Exp ∷ Word k.KeywordThen ∷ One f.Exp ∷ Word k.KeywordElse ∷ One f.Body ∷ []
+expressions_body exp.BodyIf =
+    Word k.KeywordIf ∷ One f.Exp ∷ Word k.KeywordThen ∷ One f.Exp ∷ Word k.KeywordElse ∷ One f.Body ∷ []
 expressions_body exp.BodyOr = One f.Or ∷ []
 expressions_body exp.Or = One f.And ∷ Many f.OrMore ∷ []
 expressions_body exp.OrMore = Word k.DoubleBar ∷ One f.And ∷ []
@@ -200,7 +222,8 @@ expressions_body exp.PrimaryAt = Word k.AtSign ∷ One f.AnyName ∷ []
 expressions_body exp.PrimaryAtAt = Word k.DoubleAtSign ∷ One f.AnyName ∷ []
 expressions_body exp.PrimaryParens = Word k.LeftParenthesis ∷ One f.ParenRest ∷ []
 expressions_body exp.PrimaryRecord = Word k.LeftBrace ∷ Maybe f.ExpFields ∷ Word k.RightBrace ∷ []
-expressions_body exp.PrimaryLet = Word k.KeywordLet ∷ Many f.LetDecl ∷ Word k.KeywordIn ∷ One f.Exp ∷ Word k.KeywordEnd ∷ []
+expressions_body exp.PrimaryLet =
+    Word k.KeywordLet ∷ Many f.LetDecl ∷ Word k.KeywordIn ∷ One f.Exp ∷ Word k.KeywordEnd ∷ []
 expressions_body exp.PrimaryXmlEmpty = Word k.XmlEmpty ∷ []
 expressions_body exp.PrimaryXml = Word k.XmlOpen ∷ Many f.Node ∷ Word k.XmlClose ∷ []
 expressions_body exp.AnyLower = Word k.LowerName ∷ []
@@ -234,19 +257,32 @@ markup_body markup.AttributeExp = Word k.LeftBrace ∷ One f.Exp ∷ Word k.Righ
 -- the parts of the rules of declarations
 abbrev pub declarations_body : DeclRule → List Part
 declarations_body decl.DeclVal = Word k.KeywordVal ∷ One f.ValRest ∷ []
-declarations_body decl.DeclFun = Word k.KeywordFun ∷ Word k.LowerName ∷ One f.Arg ∷ Many f.Arg ∷ Maybe f.TypeMark ∷ Word k.EqualSign ∷ One f.Exp ∷ Many f.FunMore ∷ []
-declarations_body decl.DeclCon = Word k.KeywordCon ∷ Word k.LowerName ∷ Maybe f.KindMark ∷ Word k.EqualSign ∷ One f.Con ∷ []
+declarations_body decl.DeclFun =
+    Word k.KeywordFun ∷ Word k.LowerName ∷ One f.Arg ∷ Many f.Arg ∷ Maybe f.TypeMark ∷ Word k.EqualSign ∷ One f.Exp ∷
+    Many f.FunMore ∷ []
+declarations_body decl.DeclCon =
+    Word k.KeywordCon ∷ Word k.LowerName ∷ Maybe f.KindMark ∷ Word k.EqualSign ∷ One f.Con ∷ []
 declarations_body decl.DeclType = Word k.KeywordType ∷ Word k.LowerName ∷ Word k.EqualSign ∷ One f.Con ∷ []
-declarations_body decl.DeclDatatype = Word k.KeywordDatatype ∷ Word k.LowerName ∷ Many f.Parameter ∷ Word k.EqualSign ∷ One f.Constructor ∷ Many f.ConstructorMore ∷ []
-declarations_body decl.DeclTable = Word k.KeywordTable ∷ Word k.LowerName ∷ Word k.Colon ∷ One f.Con ∷ Maybe f.KeyMark ∷ []
+declarations_body decl.DeclDatatype =
+    Word k.KeywordDatatype ∷ Word k.LowerName ∷ Many f.Parameter ∷ Word k.EqualSign ∷ One f.Constructor ∷
+    Many f.ConstructorMore ∷ []
+declarations_body decl.DeclTable =
+    Word k.KeywordTable ∷ Word k.LowerName ∷ Word k.Colon ∷ One f.Con ∷ Maybe f.KeyMark ∷ []
 declarations_body decl.DeclSequence = Word k.KeywordSequence ∷ Word k.LowerName ∷ []
 declarations_body decl.DeclCookie = Word k.KeywordCookie ∷ Word k.LowerName ∷ Word k.Colon ∷ One f.Con ∷ []
 declarations_body decl.LetVal = Word k.KeywordVal ∷ One f.ValRest ∷ []
-declarations_body decl.LetFun = Word k.KeywordFun ∷ Word k.LowerName ∷ One f.Arg ∷ Many f.Arg ∷ Maybe f.TypeMark ∷ Word k.EqualSign ∷ One f.Exp ∷ Many f.FunMore ∷ []
+declarations_body decl.LetFun =
+    Word k.KeywordFun ∷ Word k.LowerName ∷ One f.Arg ∷ Many f.Arg ∷ Maybe f.TypeMark ∷ Word k.EqualSign ∷ One f.Exp ∷
+    Many f.FunMore ∷ []
 declarations_body decl.ValPlain = Word k.LowerName ∷ Maybe f.TypeMark ∷ Word k.EqualSign ∷ One f.Exp ∷ []
-declarations_body decl.ValRec = Word k.KeywordRec ∷ Word k.LowerName ∷ Word k.Colon ∷ One f.Con ∷ Word k.EqualSign ∷ One f.Exp ∷ Many f.RecMore ∷ []
-declarations_body decl.RecMore = Word k.KeywordAnd ∷ Word k.LowerName ∷ Word k.Colon ∷ One f.Con ∷ Word k.EqualSign ∷ One f.Exp ∷ []
-declarations_body decl.FunMore = Word k.KeywordAnd ∷ Word k.LowerName ∷ One f.Arg ∷ Many f.Arg ∷ Maybe f.TypeMark ∷ Word k.EqualSign ∷ One f.Exp ∷ []
+declarations_body decl.ValRec =
+    Word k.KeywordRec ∷ Word k.LowerName ∷ Word k.Colon ∷ One f.Con ∷ Word k.EqualSign ∷ One f.Exp ∷ Many f.RecMore ∷
+    []
+declarations_body decl.RecMore =
+    Word k.KeywordAnd ∷ Word k.LowerName ∷ Word k.Colon ∷ One f.Con ∷ Word k.EqualSign ∷ One f.Exp ∷ []
+declarations_body decl.FunMore =
+    Word k.KeywordAnd ∷ Word k.LowerName ∷ One f.Arg ∷ Many f.Arg ∷ Maybe f.TypeMark ∷ Word k.EqualSign ∷ One f.Exp ∷
+    []
 declarations_body decl.TypeMark = Word k.Colon ∷ One f.Con ∷ []
 declarations_body decl.Parameter = Word k.LowerName ∷ []
 declarations_body decl.Constructor = Word k.UpperName ∷ Maybe f.ConstructorOf ∷ []
@@ -255,15 +291,21 @@ declarations_body decl.ConstructorMore = Word k.Bar ∷ One f.Constructor ∷ []
 declarations_body decl.KeyMark = Word k.SqlPrimary ∷ Word k.SqlKey ∷ One f.KeyColumns ∷ []
 declarations_body decl.KeyColumn = Word k.UpperName ∷ []
 declarations_body decl.KeyList = One f.ColumnList ∷ []
-declarations_body decl.ColumnList = Word k.LeftParenthesis ∷ Word k.UpperName ∷ Many f.ColumnMore ∷ Word k.RightParenthesis ∷ []
+declarations_body decl.ColumnList =
+    Word k.LeftParenthesis ∷ Word k.UpperName ∷ Many f.ColumnMore ∷ Word k.RightParenthesis ∷ []
 declarations_body decl.ColumnMore = Word k.Comma ∷ Word k.UpperName ∷ []
 declarations_body decl.InterfaceItem = Word k.KeywordVal ∷ Word k.LowerName ∷ Word k.Colon ∷ One f.Con ∷ []
 
 -- the parts of the rules of queries and changes of tables
 abbrev pub queries_body : SqlRule → List Part
-queries_body sql.SqlSelect = Word k.SqlSelect ∷ One f.Selection ∷ Word k.SqlFrom ∷ One f.Source ∷ Many f.SourceMore ∷ Maybe f.Where ∷ Maybe f.OrderBy ∷ Maybe f.Limit ∷ Maybe f.Offset ∷ []
-queries_body sql.SqlInsert = Word k.SqlInsert ∷ Word k.SqlInto ∷ One f.TableRef ∷ One f.ColumnList ∷ Word k.SqlValues ∷ One f.ValueList ∷ []
-queries_body sql.SqlUpdate = Word k.SqlUpdate ∷ One f.TableRef ∷ Word k.SqlSet ∷ One f.Assignment ∷ Many f.AssignmentMore ∷ Word k.SqlWhere ∷ One f.SqlOr ∷ []
+queries_body sql.SqlSelect =
+    Word k.SqlSelect ∷ One f.Selection ∷ Word k.SqlFrom ∷ One f.Source ∷ Many f.SourceMore ∷ Maybe f.Where ∷
+    Maybe f.OrderBy ∷ Maybe f.Limit ∷ Maybe f.Offset ∷ []
+queries_body sql.SqlInsert =
+    Word k.SqlInsert ∷ Word k.SqlInto ∷ One f.TableRef ∷ One f.ColumnList ∷ Word k.SqlValues ∷ One f.ValueList ∷ []
+queries_body sql.SqlUpdate =
+    Word k.SqlUpdate ∷ One f.TableRef ∷ Word k.SqlSet ∷ One f.Assignment ∷ Many f.AssignmentMore ∷ Word k.SqlWhere ∷
+    One f.SqlOr ∷ []
 queries_body sql.SqlDelete = Word k.SqlDelete ∷ Word k.SqlFrom ∷ One f.TableRef ∷ Word k.SqlWhere ∷ One f.SqlOr ∷ []
 queries_body sql.SqlWhere = Word k.SqlWhere ∷ One f.SqlOr ∷ []
 queries_body sql.Where = Word k.SqlWhere ∷ One f.SqlOr ∷ []
@@ -286,7 +328,9 @@ queries_body sql.ItemColumn = Word k.UpperName ∷ Maybe f.ItemNamed ∷ []
 queries_body sql.ItemStar = Word k.Star ∷ []
 queries_body sql.ItemBraces = Word k.LeftBrace ∷ One f.ItemBracesRow ∷ Word k.RightBrace ∷ []
 queries_body sql.ItemBracesRow = Word k.LeftBrace ∷ One f.Con ∷ Word k.RightBrace ∷ []
-queries_body sql.ItemNamed = Many f.SqlProductMore ∷ Many f.SqlSumMore ∷ Maybe f.SqlCompareMore ∷ Many f.SqlAndMore ∷ Many f.SqlOrMore ∷ Word k.SqlAs ∷ Word k.UpperName ∷ []
+queries_body sql.ItemNamed =
+    Many f.SqlProductMore ∷ Many f.SqlSumMore ∷ Maybe f.SqlCompareMore ∷ Many f.SqlAndMore ∷ Many f.SqlOrMore ∷
+    Word k.SqlAs ∷ Word k.UpperName ∷ []
 queries_body sql.SourceTable = One f.Path ∷ Maybe f.AsMark ∷ []
 queries_body sql.SourceExp = One f.TableBraces ∷ Word k.SqlAs ∷ Word k.UpperName ∷ []
 queries_body sql.SourceMore = Word k.Comma ∷ One f.Source ∷ []

@@ -96,7 +96,9 @@ abbrev mutual
   Fits room name (leaf t) (Many g) x = ⊥
   Fits room name (leaf t) (Maybe g) x = ⊥
   Fits room name (branch q ns) (Word w) x = ⊥
-  Fits room name (branch q ns) (One g) x = (inner : ℕ) × (own : Content) × Built room inner name own q g (front (spell_all ns) x) × FitsAll inner own ns (body_of q) x
+  Fits room name (branch q ns) (One g) x =
+      (inner : ℕ) × (own : Content) × Built room inner name own q g (front (spell_all ns) x)
+      × FitsAll inner own ns (body_of q) x
   Fits room name (branch q ns) (Many g) x = ⊥
   Fits room name (branch q ns) (Maybe g) x = ⊥
   Fits room name (several ns) (Word w) x = ⊥

@@ -127,4 +127,5 @@ is_upper_word _ = false
 
 -- a token of the second kind may stand for a word of the first
 abbrev pub accept : Kind → Kind → Bool
-accept word found = (kind_code word == kind_code found) || ((kind_code word == kind_code k.UpperName) && is_upper_word found)
+accept word found =
+    (kind_code word == kind_code found) || ((kind_code word == kind_code k.UpperName) && is_upper_word found)

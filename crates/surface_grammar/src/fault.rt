@@ -31,7 +31,7 @@ impl From<AllocError> for ParseFault {
 }
 
 /// What a reader of a part leaves to another.
-#[derive(Clone, Copy, Debug, PartialEq, Eq)]
+#[derive(Clone, Copy)]
 pub enum Hole {
     /// An expression.
     Exp,
@@ -40,7 +40,7 @@ pub enum Hole {
 }
 
 /// How far a reader of a part has come.
-#[derive(Debug, Drop)]
+#[derive(Drop)]
 pub enum Step {
     /// It wants such a tree, which begins at this token, at this depth.
     Wants(Hole, u32, u32),

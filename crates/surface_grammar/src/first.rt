@@ -1,8 +1,9 @@
-//! Which rules a form has, and which tokens begin it.
+//! The rules of each form, and the words that begin it.
 ghost use Rattle.std.specs.Prelude.{◌≡◌};
 ghost use Rattle.surface_grammar.specs.Forms.{first_of, rules_of};
 ghost use Rattle.surface_grammar.specs.Trees.{begins};
 
+use crate::table::{rules, word_kind, words};
 use crate::words::any_accepts;
 use crate::{
     ArgRule, ConRule, DeclRule, ExpRule, Form, KindRule, MarkupRule, PatRule, Rule, SqlRule,
@@ -14,860 +15,278 @@ impl Form {
     pub fn rules(self) -> &'static [Rule]
         ensures { result.now ≡ rules_of self }
     {
-        match self {
-            Form::KindTerm => &[Rule::Kind(KindRule::KindTerm)],
-            Form::KindArrow => &[Rule::Kind(KindRule::KindArrow)],
-            Form::KindAtom => &[
-                Rule::Kind(KindRule::KindType),
-                Rule::Kind(KindRule::KindUnit),
-                Rule::Kind(KindRule::KindName),
-                Rule::Kind(KindRule::KindRow),
-                Rule::Kind(KindRule::KindTuple),
-            ],
-            Form::KindTimes => &[Rule::Kind(KindRule::KindTimes)],
-            Form::KindMark => &[Rule::Kind(KindRule::KindMark)],
-            Form::Con => &[
-                Rule::Con(ConRule::ConLambda),
-                Rule::Con(ConRule::ConLower),
-                Rule::Con(ConRule::ConBracket),
-                Rule::Con(ConRule::ConOther),
-            ],
-            Form::ConForall => &[
-                Rule::Con(ConRule::ConExplicit),
-                Rule::Con(ConRule::ConImplicit),
-            ],
-            Form::ConArrow => &[Rule::Con(ConRule::ConArrow)],
-            Form::ConProduct => &[Rule::Con(ConRule::ConProduct)],
-            Form::ConTimes => &[Rule::Con(ConRule::ConTimes)],
-            Form::ConSum => &[Rule::Con(ConRule::ConSum)],
-            Form::ConConcat => &[Rule::Con(ConRule::ConConcat)],
-            Form::ConApply => &[Rule::Con(ConRule::ConApply)],
-            Form::ConTerm => &[Rule::Con(ConRule::ConRecord), Rule::Con(ConRule::ConPlain)],
-            Form::ConDollar => &[Rule::Con(ConRule::ConDollar)],
-            Form::ConPrimary => &[Rule::Con(ConRule::ConPrimary)],
-            Form::ConIndex => &[Rule::Con(ConRule::ConIndex)],
-            Form::ConAtom => &[
-                Rule::Con(ConRule::ConPath),
-                Rule::Con(ConRule::ConWild),
-                Rule::Con(ConRule::ConHash),
-                Rule::Con(ConRule::ConParens),
-                Rule::Con(ConRule::ConFields),
-                Rule::Con(ConRule::ConRow),
-            ],
-            Form::HashName => &[Rule::Con(ConRule::HashUpper), Rule::Con(ConRule::HashInt)],
-            Form::ConParenRest => &[Rule::Con(ConRule::ConUnit), Rule::Con(ConRule::ConGroup)],
-            Form::ConParenEnd => &[
-                Rule::Con(ConRule::ConClose),
-                Rule::Con(ConRule::ConMarked),
-                Rule::Con(ConRule::ConTuple),
-            ],
-            Form::ConComma => &[Rule::Con(ConRule::ConComma)],
-            Form::ConFieldTypes => &[Rule::Con(ConRule::ConFieldTypes)],
-            Form::ConFieldMore => &[Rule::Con(ConRule::ConFieldMore)],
-            Form::ConRowFields => &[Rule::Con(ConRule::ConRowFields)],
-            Form::ConFieldValue => &[Rule::Con(ConRule::ConFieldValue)],
-            Form::ConRowMore => &[Rule::Con(ConRule::ConRowMore)],
-            Form::FieldName => &[
-                Rule::Con(ConRule::FieldUpper),
-                Rule::Con(ConRule::FieldInt),
-                Rule::Con(ConRule::FieldHash),
-                Rule::Con(ConRule::FieldLower),
-            ],
-            Form::Path => &[Rule::Con(ConRule::Path)],
-            Form::UpperDot => &[Rule::Con(ConRule::UpperDot)],
-            Form::BracketOpen => &[Rule::Con(ConRule::BracketOpen)],
-            Form::BracketRest => &[
-                Rule::Con(ConRule::BracketEmpty),
-                Rule::Con(ConRule::BracketInt),
-                Rule::Con(ConRule::BracketLower),
-                Rule::Con(ConRule::BracketUpper),
-                Rule::Con(ConRule::BracketHash),
-                Rule::Con(ConRule::BracketGuard),
-            ],
-            Form::BracketFields => &[Rule::Con(ConRule::BracketFields)],
-            Form::BracketNameRest => &[
-                Rule::Con(ConRule::BracketNameRow),
-                Rule::Con(ConRule::BracketNameGuard),
-            ],
-            Form::BracketUpperRest => &[
-                Rule::Con(ConRule::BracketUpperRow),
-                Rule::Con(ConRule::BracketUpperGuard),
-            ],
-            Form::BracketHashRest => &[
-                Rule::Con(ConRule::BracketHashUpper),
-                Rule::Con(ConRule::BracketHashInt),
-            ],
-            Form::GuardSides => &[Rule::Con(ConRule::GuardSides)],
-            Form::NameSides => &[Rule::Con(ConRule::NameSides)],
-            Form::PathSides => &[Rule::Con(ConRule::PathSides)],
-            Form::IntSides => &[Rule::Con(ConRule::IntSides)],
-            Form::Pat => &[Rule::Pat(PatRule::Pat)],
-            Form::PatCons => &[Rule::Pat(PatRule::PatCons)],
-            Form::PatTerm => &[
-                Rule::Pat(PatRule::PatConstructor),
-                Rule::Pat(PatRule::PatPlain),
-            ],
-            Form::PatAtom => &[
-                Rule::Pat(PatRule::PatWild),
-                Rule::Pat(PatRule::PatVariable),
-                Rule::Pat(PatRule::PatInt),
-                Rule::Pat(PatRule::PatNegative),
-                Rule::Pat(PatRule::PatString),
-                Rule::Pat(PatRule::PatName),
-                Rule::Pat(PatRule::PatList),
-                Rule::Pat(PatRule::PatParens),
-                Rule::Pat(PatRule::PatRecord),
-            ],
-            Form::UpperPath => &[Rule::Pat(PatRule::UpperPath)],
-            Form::DotUpper => &[Rule::Pat(PatRule::DotUpper)],
-            Form::PatParenRest => &[Rule::Pat(PatRule::PatUnit), Rule::Pat(PatRule::PatGroup)],
-            Form::PatParenEnd => &[
-                Rule::Pat(PatRule::PatClose),
-                Rule::Pat(PatRule::PatTyped),
-                Rule::Pat(PatRule::PatTuple),
-            ],
-            Form::PatComma => &[Rule::Pat(PatRule::PatComma)],
-            Form::PatRecordRest => &[
-                Rule::Pat(PatRule::PatRecordEmpty),
-                Rule::Pat(PatRule::PatRecordDots),
-                Rule::Pat(PatRule::PatRecordFields),
-            ],
-            Form::PatFieldMore => &[Rule::Pat(PatRule::PatFieldMore)],
-            Form::PatFieldNext => &[
-                Rule::Pat(PatRule::PatFieldDots),
-                Rule::Pat(PatRule::PatFieldNamed),
-            ],
-            Form::Arg => &[
-                Rule::Arg(ArgRule::ArgPattern),
-                Rule::Arg(ArgRule::ArgBracket),
-            ],
-            Form::ArgBracketRest => &[
-                Rule::Arg(ArgRule::ArgList),
-                Rule::Arg(ArgRule::ArgLower),
-                Rule::Arg(ArgRule::ArgGuard),
-            ],
-            Form::ArgLowerRest => &[
-                Rule::Arg(ArgRule::ArgType),
-                Rule::Arg(ArgRule::ArgExplicit),
-                Rule::Arg(ArgRule::ArgImplicit),
-                Rule::Arg(ArgRule::ArgLowerGuard),
-            ],
-            Form::Exp => &[Rule::Exp(ExpRule::ExpBind), Rule::Exp(ExpRule::ExpPlain)],
-            Form::ExpBindRest => &[Rule::Exp(ExpRule::ExpBindRest)],
-            Form::ExpThen => &[Rule::Exp(ExpRule::ExpThen)],
-            Form::Term => &[
-                Rule::Exp(ExpRule::TermLambda),
-                Rule::Exp(ExpRule::TermCase),
-                Rule::Exp(ExpRule::TermIf),
-                Rule::Exp(ExpRule::TermOr),
-            ],
-            Form::CaseBar => &[Rule::Exp(ExpRule::CaseBar)],
-            Form::CaseMore => &[Rule::Exp(ExpRule::CaseMore)],
-            Form::Body => &[Rule::Exp(ExpRule::BodyIf), Rule::Exp(ExpRule::BodyOr)],
-            Form::Or => &[Rule::Exp(ExpRule::Or)],
-            Form::OrMore => &[Rule::Exp(ExpRule::OrMore)],
-            Form::And => &[Rule::Exp(ExpRule::And)],
-            Form::AndMore => &[Rule::Exp(ExpRule::AndMore)],
-            Form::Compare => &[Rule::Exp(ExpRule::Compare)],
-            Form::CompareMore => &[
-                Rule::Exp(ExpRule::CompareEqual),
-                Rule::Exp(ExpRule::CompareNotEqual),
-                Rule::Exp(ExpRule::CompareLess),
-                Rule::Exp(ExpRule::CompareLessOrEqual),
-                Rule::Exp(ExpRule::CompareGreater),
-                Rule::Exp(ExpRule::CompareGreaterOrEqual),
-            ],
-            Form::Cons => &[Rule::Exp(ExpRule::Cons)],
-            Form::ConsMore => &[Rule::Exp(ExpRule::ConsMore)],
-            Form::Join => &[Rule::Exp(ExpRule::Join)],
-            Form::JoinMore => &[
-                Rule::Exp(ExpRule::JoinTexts),
-                Rule::Exp(ExpRule::JoinRecords),
-            ],
-            Form::Sum => &[Rule::Exp(ExpRule::Sum)],
-            Form::SumMore => &[Rule::Exp(ExpRule::SumPlus), Rule::Exp(ExpRule::SumMinus)],
-            Form::Product => &[Rule::Exp(ExpRule::Product)],
-            Form::ProductMore => &[
-                Rule::Exp(ExpRule::ProductTimes),
-                Rule::Exp(ExpRule::ProductDivide),
-                Rule::Exp(ExpRule::ProductModulo),
-            ],
-            Form::Sign => &[Rule::Exp(ExpRule::SignMinus), Rule::Exp(ExpRule::SignNone)],
-            Form::Cut => &[Rule::Exp(ExpRule::Cut)],
-            Form::CutMore => &[Rule::Exp(ExpRule::CutField), Rule::Exp(ExpRule::CutRow)],
-            Form::Apply => &[Rule::Exp(ExpRule::Apply)],
-            Form::Argument => &[
-                Rule::Exp(ExpRule::ArgumentTerm),
-                Rule::Exp(ExpRule::ArgumentBracket),
-                Rule::Exp(ExpRule::ArgumentGuard),
-            ],
-            Form::ArgumentRest => &[
-                Rule::Exp(ExpRule::ArgumentList),
-                Rule::Exp(ExpRule::ArgumentCon),
-            ],
-            Form::Atom => &[Rule::Exp(ExpRule::AtomTerm), Rule::Exp(ExpRule::AtomList)],
-            Form::Operand => &[Rule::Exp(ExpRule::Operand)],
-            Form::Dot => &[Rule::Exp(ExpRule::Dot)],
-            Form::Primary => &[
-                Rule::Exp(ExpRule::PrimaryInt),
-                Rule::Exp(ExpRule::PrimaryString),
-                Rule::Exp(ExpRule::PrimaryLower),
-                Rule::Exp(ExpRule::PrimaryUpper),
-                Rule::Exp(ExpRule::PrimaryAt),
-                Rule::Exp(ExpRule::PrimaryAtAt),
-                Rule::Exp(ExpRule::PrimaryParens),
-                Rule::Exp(ExpRule::PrimaryRecord),
-                Rule::Exp(ExpRule::PrimaryLet),
-                Rule::Exp(ExpRule::PrimaryXmlEmpty),
-                Rule::Exp(ExpRule::PrimaryXml),
-            ],
-            Form::AnyName => &[Rule::Exp(ExpRule::AnyLower), Rule::Exp(ExpRule::AnyUpper)],
-            Form::ParenRest => &[
-                Rule::Exp(ExpRule::ParenUnit),
-                Rule::Exp(ExpRule::ParenGroup),
-                Rule::Exp(ExpRule::ParenSql),
-            ],
-            Form::ParenEnd => &[
-                Rule::Exp(ExpRule::ParenClose),
-                Rule::Exp(ExpRule::ParenTyped),
-                Rule::Exp(ExpRule::ParenTuple),
-            ],
-            Form::ExpComma => &[Rule::Exp(ExpRule::ExpComma)],
-            Form::ExpFields => &[Rule::Exp(ExpRule::ExpFields)],
-            Form::ExpFieldMore => &[Rule::Exp(ExpRule::ExpFieldMore)],
-            Form::Node => &[
-                Rule::Markup(MarkupRule::NodeText),
-                Rule::Markup(MarkupRule::NodeBrace),
-                Rule::Markup(MarkupRule::NodeElement),
-            ],
-            Form::NodeBraceRest => &[
-                Rule::Markup(MarkupRule::NodeSplice),
-                Rule::Markup(MarkupRule::NodeExp),
-            ],
-            Form::Splice => &[Rule::Markup(MarkupRule::Splice)],
-            Form::TagName => &[Rule::Markup(MarkupRule::TagName)],
-            Form::ElementEnd => &[
-                Rule::Markup(MarkupRule::ElementEmpty),
-                Rule::Markup(MarkupRule::ElementFull),
-            ],
-            Form::Attribute => &[Rule::Markup(MarkupRule::Attribute)],
-            Form::AttributeValue => &[
-                Rule::Markup(MarkupRule::AttributeString),
-                Rule::Markup(MarkupRule::AttributeInt),
-                Rule::Markup(MarkupRule::AttributeExp),
-            ],
-            Form::Decl => &[
-                Rule::Decl(DeclRule::DeclVal),
-                Rule::Decl(DeclRule::DeclFun),
-                Rule::Decl(DeclRule::DeclCon),
-                Rule::Decl(DeclRule::DeclType),
-                Rule::Decl(DeclRule::DeclDatatype),
-                Rule::Decl(DeclRule::DeclTable),
-                Rule::Decl(DeclRule::DeclSequence),
-                Rule::Decl(DeclRule::DeclCookie),
-            ],
-            Form::LetDecl => &[Rule::Decl(DeclRule::LetVal), Rule::Decl(DeclRule::LetFun)],
-            Form::ValRest => &[Rule::Decl(DeclRule::ValPlain), Rule::Decl(DeclRule::ValRec)],
-            Form::RecMore => &[Rule::Decl(DeclRule::RecMore)],
-            Form::FunMore => &[Rule::Decl(DeclRule::FunMore)],
-            Form::TypeMark => &[Rule::Decl(DeclRule::TypeMark)],
-            Form::Parameter => &[Rule::Decl(DeclRule::Parameter)],
-            Form::Constructor => &[Rule::Decl(DeclRule::Constructor)],
-            Form::ConstructorOf => &[Rule::Decl(DeclRule::ConstructorOf)],
-            Form::ConstructorMore => &[Rule::Decl(DeclRule::ConstructorMore)],
-            Form::KeyMark => &[Rule::Decl(DeclRule::KeyMark)],
-            Form::KeyColumns => &[
-                Rule::Decl(DeclRule::KeyColumn),
-                Rule::Decl(DeclRule::KeyList),
-            ],
-            Form::ColumnList => &[Rule::Decl(DeclRule::ColumnList)],
-            Form::ColumnMore => &[Rule::Decl(DeclRule::ColumnMore)],
-            Form::InterfaceItem => &[Rule::Decl(DeclRule::InterfaceItem)],
-            Form::Sql => &[
-                Rule::Sql(SqlRule::SqlSelect),
-                Rule::Sql(SqlRule::SqlInsert),
-                Rule::Sql(SqlRule::SqlUpdate),
-                Rule::Sql(SqlRule::SqlDelete),
-                Rule::Sql(SqlRule::SqlWhere),
-            ],
-            Form::Where => &[Rule::Sql(SqlRule::Where)],
-            Form::OrderBy => &[Rule::Sql(SqlRule::OrderBy)],
-            Form::Limit => &[Rule::Sql(SqlRule::Limit)],
-            Form::Offset => &[Rule::Sql(SqlRule::Offset)],
-            Form::ValueList => &[Rule::Sql(SqlRule::ValueList)],
-            Form::ValueMore => &[Rule::Sql(SqlRule::ValueMore)],
-            Form::Assignment => &[Rule::Sql(SqlRule::Assignment)],
-            Form::AssignmentMore => &[Rule::Sql(SqlRule::AssignmentMore)],
-            Form::Selection => &[
-                Rule::Sql(SqlRule::SelectAll),
-                Rule::Sql(SqlRule::SelectItems),
-            ],
-            Form::ItemMore => &[Rule::Sql(SqlRule::ItemMore)],
-            Form::Item => &[
-                Rule::Sql(SqlRule::ItemLower),
-                Rule::Sql(SqlRule::ItemUpper),
-                Rule::Sql(SqlRule::ItemOther),
-            ],
-            Form::ItemUpperRest => &[
-                Rule::Sql(SqlRule::ItemUpperDot),
-                Rule::Sql(SqlRule::ItemUpperNamed),
-            ],
-            Form::ItemDot => &[
-                Rule::Sql(SqlRule::ItemColumn),
-                Rule::Sql(SqlRule::ItemStar),
-                Rule::Sql(SqlRule::ItemBraces),
-            ],
-            Form::ItemBracesRow => &[Rule::Sql(SqlRule::ItemBracesRow)],
-            Form::ItemNamed => &[Rule::Sql(SqlRule::ItemNamed)],
-            Form::Source => &[
-                Rule::Sql(SqlRule::SourceTable),
-                Rule::Sql(SqlRule::SourceExp),
-            ],
-            Form::SourceMore => &[Rule::Sql(SqlRule::SourceMore)],
-            Form::AsMark => &[Rule::Sql(SqlRule::AsMark)],
-            Form::TableRef => &[Rule::Sql(SqlRule::RefTable), Rule::Sql(SqlRule::RefExp)],
-            Form::TableBraces => &[Rule::Sql(SqlRule::TableBraces)],
-            Form::TableBracesExp => &[Rule::Sql(SqlRule::TableBracesExp)],
-            Form::Order => &[Rule::Sql(SqlRule::Order)],
-            Form::Direction => &[
-                Rule::Sql(SqlRule::DirectionAsc),
-                Rule::Sql(SqlRule::DirectionDesc),
-            ],
-            Form::OrderMore => &[Rule::Sql(SqlRule::OrderMore)],
-            Form::Count => &[Rule::Sql(SqlRule::CountInt), Rule::Sql(SqlRule::CountExp)],
-            Form::SqlOr => &[Rule::Sql(SqlRule::SqlOr)],
-            Form::SqlOrMore => &[Rule::Sql(SqlRule::SqlOrMore)],
-            Form::SqlAnd => &[Rule::Sql(SqlRule::SqlAnd)],
-            Form::SqlAndMore => &[Rule::Sql(SqlRule::SqlAndMore)],
-            Form::SqlNot => &[
-                Rule::Sql(SqlRule::SqlNegated),
-                Rule::Sql(SqlRule::SqlCompared),
-            ],
-            Form::SqlCompare => &[Rule::Sql(SqlRule::SqlCompare)],
-            Form::SqlCompareMore => &[
-                Rule::Sql(SqlRule::SqlEqual),
-                Rule::Sql(SqlRule::SqlNotEqual),
-                Rule::Sql(SqlRule::SqlLess),
-                Rule::Sql(SqlRule::SqlLessOrEqual),
-                Rule::Sql(SqlRule::SqlGreater),
-                Rule::Sql(SqlRule::SqlGreaterOrEqual),
-            ],
-            Form::SqlSum => &[Rule::Sql(SqlRule::SqlSum)],
-            Form::SqlSumMore => &[Rule::Sql(SqlRule::SqlPlus), Rule::Sql(SqlRule::SqlMinus)],
-            Form::SqlProduct => &[Rule::Sql(SqlRule::SqlProduct)],
-            Form::SqlProductMore => &[
-                Rule::Sql(SqlRule::SqlTimes),
-                Rule::Sql(SqlRule::SqlDivide),
-                Rule::Sql(SqlRule::SqlModulo),
-            ],
-            Form::SqlTerm => &[
-                Rule::Sql(SqlRule::SqlNegative),
-                Rule::Sql(SqlRule::SqlInt),
-                Rule::Sql(SqlRule::SqlString),
-                Rule::Sql(SqlRule::SqlTrue),
-                Rule::Sql(SqlRule::SqlFalse),
-                Rule::Sql(SqlRule::SqlField),
-                Rule::Sql(SqlRule::SqlColumn),
-                Rule::Sql(SqlRule::SqlBrace),
-                Rule::Sql(SqlRule::SqlParens),
-            ],
-            Form::SqlBraceRest => &[Rule::Sql(SqlRule::SqlSplice), Rule::Sql(SqlRule::SqlExp)],
+        let form = self;
+        rules! { form,
+            // Kinds.
+            KindTerm = Kind(KindTerm)
+            KindArrow = Kind(KindArrow)
+            KindAtom = Kind(KindType KindUnit KindName KindRow KindTuple)
+            KindTimes = Kind(KindTimes)
+            KindMark = Kind(KindMark)
+            // Constructors.
+            Con = Con(ConLambda ConLower ConBracket ConOther)
+            ConForall = Con(ConExplicit ConImplicit)
+            ConArrow = Con(ConArrow)
+            ConProduct = Con(ConProduct)
+            ConTimes = Con(ConTimes)
+            ConSum = Con(ConSum)
+            ConConcat = Con(ConConcat)
+            ConApply = Con(ConApply)
+            ConTerm = Con(ConRecord ConPlain)
+            ConDollar = Con(ConDollar)
+            ConPrimary = Con(ConPrimary)
+            ConIndex = Con(ConIndex)
+            ConAtom = Con(ConPath ConWild ConHash ConParens ConFields ConRow)
+            HashName = Con(HashUpper HashInt)
+            ConParenRest = Con(ConUnit ConGroup)
+            ConParenEnd = Con(ConClose ConMarked ConTuple)
+            ConComma = Con(ConComma)
+            ConFieldTypes = Con(ConFieldTypes)
+            ConFieldMore = Con(ConFieldMore)
+            ConRowFields = Con(ConRowFields)
+            ConFieldValue = Con(ConFieldValue)
+            ConRowMore = Con(ConRowMore)
+            FieldName = Con(FieldUpper FieldInt FieldHash FieldLower)
+            Path = Con(Path)
+            UpperDot = Con(UpperDot)
+            BracketOpen = Con(BracketOpen)
+            BracketRest = Con(BracketEmpty BracketInt BracketLower BracketUpper BracketHash BracketGuard)
+            BracketFields = Con(BracketFields)
+            BracketNameRest = Con(BracketNameRow BracketNameGuard)
+            BracketUpperRest = Con(BracketUpperRow BracketUpperGuard)
+            BracketHashRest = Con(BracketHashUpper BracketHashInt)
+            GuardSides = Con(GuardSides)
+            NameSides = Con(NameSides)
+            PathSides = Con(PathSides)
+            IntSides = Con(IntSides)
+            // Patterns.
+            Pat = Pat(Pat)
+            PatCons = Pat(PatCons)
+            PatTerm = Pat(PatConstructor PatPlain)
+            PatAtom = Pat(PatWild PatVariable PatInt PatNegative PatString PatName PatList PatParens
+                PatRecord)
+            UpperPath = Pat(UpperPath)
+            DotUpper = Pat(DotUpper)
+            PatParenRest = Pat(PatUnit PatGroup)
+            PatParenEnd = Pat(PatClose PatTyped PatTuple)
+            PatComma = Pat(PatComma)
+            PatRecordRest = Pat(PatRecordEmpty PatRecordDots PatRecordFields)
+            PatFieldMore = Pat(PatFieldMore)
+            PatFieldNext = Pat(PatFieldDots PatFieldNamed)
+            // Parameters.
+            Arg = Arg(ArgPattern ArgBracket)
+            ArgBracketRest = Arg(ArgList ArgLower ArgGuard)
+            ArgLowerRest = Arg(ArgType ArgExplicit ArgImplicit ArgLowerGuard)
+            // Expressions.
+            Exp = Exp(ExpBind ExpPlain)
+            ExpBindRest = Exp(ExpBindRest)
+            ExpThen = Exp(ExpThen)
+            Term = Exp(TermLambda TermCase TermIf TermOr)
+            CaseBar = Exp(CaseBar)
+            CaseMore = Exp(CaseMore)
+            Body = Exp(BodyIf BodyOr)
+            Or = Exp(Or)
+            OrMore = Exp(OrMore)
+            And = Exp(And)
+            AndMore = Exp(AndMore)
+            Compare = Exp(Compare)
+            CompareMore = Exp(CompareEqual CompareNotEqual CompareLess CompareLessOrEqual CompareGreater
+                CompareGreaterOrEqual)
+            Cons = Exp(Cons)
+            ConsMore = Exp(ConsMore)
+            Join = Exp(Join)
+            JoinMore = Exp(JoinTexts JoinRecords)
+            Sum = Exp(Sum)
+            SumMore = Exp(SumPlus SumMinus)
+            Product = Exp(Product)
+            ProductMore = Exp(ProductTimes ProductDivide ProductModulo)
+            Sign = Exp(SignMinus SignNone)
+            Cut = Exp(Cut)
+            CutMore = Exp(CutField CutRow)
+            Apply = Exp(Apply)
+            Argument = Exp(ArgumentTerm ArgumentBracket ArgumentGuard)
+            ArgumentRest = Exp(ArgumentList ArgumentCon)
+            Atom = Exp(AtomTerm AtomList)
+            Operand = Exp(Operand)
+            Dot = Exp(Dot)
+            Primary = Exp(PrimaryInt PrimaryString PrimaryLower PrimaryUpper PrimaryAt PrimaryAtAt
+                PrimaryParens PrimaryRecord PrimaryLet PrimaryXmlEmpty PrimaryXml)
+            AnyName = Exp(AnyLower AnyUpper)
+            ParenRest = Exp(ParenUnit ParenGroup ParenSql)
+            ParenEnd = Exp(ParenClose ParenTyped ParenTuple)
+            ExpComma = Exp(ExpComma)
+            ExpFields = Exp(ExpFields)
+            ExpFieldMore = Exp(ExpFieldMore)
+            // Markup.
+            Node = Markup(NodeText NodeBrace NodeElement)
+            NodeBraceRest = Markup(NodeSplice NodeExp)
+            Splice = Markup(Splice)
+            TagName = Markup(TagName)
+            ElementEnd = Markup(ElementEmpty ElementFull)
+            Attribute = Markup(Attribute)
+            AttributeValue = Markup(AttributeString AttributeInt AttributeExp)
+            // Declarations.
+            Decl = Decl(DeclVal DeclFun DeclCon DeclType DeclDatatype DeclTable DeclSequence DeclCookie)
+            LetDecl = Decl(LetVal LetFun)
+            ValRest = Decl(ValPlain ValRec)
+            RecMore = Decl(RecMore)
+            FunMore = Decl(FunMore)
+            TypeMark = Decl(TypeMark)
+            Parameter = Decl(Parameter)
+            Constructor = Decl(Constructor)
+            ConstructorOf = Decl(ConstructorOf)
+            ConstructorMore = Decl(ConstructorMore)
+            KeyMark = Decl(KeyMark)
+            KeyColumns = Decl(KeyColumn KeyList)
+            ColumnList = Decl(ColumnList)
+            ColumnMore = Decl(ColumnMore)
+            InterfaceItem = Decl(InterfaceItem)
+            // SQL.
+            Sql = Sql(SqlSelect SqlInsert SqlUpdate SqlDelete SqlWhere)
+            Where = Sql(Where)
+            OrderBy = Sql(OrderBy)
+            Limit = Sql(Limit)
+            Offset = Sql(Offset)
+            ValueList = Sql(ValueList)
+            ValueMore = Sql(ValueMore)
+            Assignment = Sql(Assignment)
+            AssignmentMore = Sql(AssignmentMore)
+            Selection = Sql(SelectAll SelectItems)
+            ItemMore = Sql(ItemMore)
+            Item = Sql(ItemLower ItemUpper ItemOther)
+            ItemUpperRest = Sql(ItemUpperDot ItemUpperNamed)
+            ItemDot = Sql(ItemColumn ItemStar ItemBraces)
+            ItemBracesRow = Sql(ItemBracesRow)
+            ItemNamed = Sql(ItemNamed)
+            Source = Sql(SourceTable SourceExp)
+            SourceMore = Sql(SourceMore)
+            AsMark = Sql(AsMark)
+            TableRef = Sql(RefTable RefExp)
+            TableBraces = Sql(TableBraces)
+            TableBracesExp = Sql(TableBracesExp)
+            Order = Sql(Order)
+            Direction = Sql(DirectionAsc DirectionDesc)
+            OrderMore = Sql(OrderMore)
+            Count = Sql(CountInt CountExp)
+            SqlOr = Sql(SqlOr)
+            SqlOrMore = Sql(SqlOrMore)
+            SqlAnd = Sql(SqlAnd)
+            SqlAndMore = Sql(SqlAndMore)
+            SqlNot = Sql(SqlNegated SqlCompared)
+            SqlCompare = Sql(SqlCompare)
+            SqlCompareMore = Sql(SqlEqual SqlNotEqual SqlLess SqlLessOrEqual SqlGreater SqlGreaterOrEqual)
+            SqlSum = Sql(SqlSum)
+            SqlSumMore = Sql(SqlPlus SqlMinus)
+            SqlProduct = Sql(SqlProduct)
+            SqlProductMore = Sql(SqlTimes SqlDivide SqlModulo)
+            SqlTerm = Sql(SqlNegative SqlInt SqlString SqlTrue SqlFalse SqlField SqlColumn SqlBrace
+                SqlParens)
+            SqlBraceRest = Sql(SqlSplice SqlExp)
         }
     }
 
-    /// The words that begin a tree of the form.
-    pub fn first(self) -> &'static [Kind]
+    /// The words that begin a tree of the form. Those are what its rules give, and stand here so that they needn't be
+    /// found again for each token.
+    fn first(self) -> &'static [Kind]
         ensures { result.now ≡ first_of self }
     {
-        match self {
-            Form::KindTerm | Form::KindAtom => &[
-                Kind::TypeWord,
-                Kind::UnitWord,
-                Kind::NameWord,
-                Kind::LeftParenthesis,
-                Kind::LeftBrace,
-            ],
-            Form::KindArrow | Form::ConArrow => &[Kind::Arrow],
-            Form::KindTimes | Form::ConTimes => &[Kind::Star],
-            Form::KindMark | Form::PatCons | Form::ConsMore => &[Kind::DoubleColon],
-            Form::Con => &[
-                Kind::KeywordFn,
-                Kind::Hash,
-                Kind::Dollar,
-                Kind::LeftParenthesis,
-                Kind::LeftBracket,
-                Kind::LeftBrace,
-                Kind::Underscore,
-                Kind::LowerName,
-                Kind::UpperName,
-            ],
-            Form::ConForall => &[Kind::DoubleColon, Kind::TripleColon],
-            Form::ConProduct | Form::ConSum | Form::ConApply | Form::ConTerm | Form::GuardSides =>
-                &[
-                    Kind::Hash,
-                    Kind::Dollar,
-                    Kind::LeftParenthesis,
-                    Kind::LeftBracket,
-                    Kind::LeftBrace,
-                    Kind::Underscore,
-                    Kind::LowerName,
-                    Kind::UpperName,
-                ],
-            Form::ConConcat => &[Kind::DoublePlus],
-            Form::ConDollar => &[Kind::Dollar],
-            Form::ConPrimary | Form::ConAtom => &[
-                Kind::Hash,
-                Kind::LeftParenthesis,
-                Kind::LeftBracket,
-                Kind::LeftBrace,
-                Kind::Underscore,
-                Kind::LowerName,
-                Kind::UpperName,
-            ],
-            Form::ConIndex | Form::PathSides | Form::DotUpper | Form::Dot => &[Kind::Dot],
-            Form::HashName | Form::BracketHashRest => &[Kind::UpperName, Kind::Integer],
-            Form::ConParenRest => &[
-                Kind::KeywordFn,
-                Kind::Hash,
-                Kind::Dollar,
-                Kind::LeftParenthesis,
-                Kind::RightParenthesis,
-                Kind::LeftBracket,
-                Kind::LeftBrace,
-                Kind::Underscore,
-                Kind::LowerName,
-                Kind::UpperName,
-            ],
-            Form::ConParenEnd => &[Kind::RightParenthesis, Kind::Comma, Kind::DoubleColon],
-            Form::ConComma
-            | Form::ConFieldMore
-            | Form::ConRowMore
-            | Form::PatComma
-            | Form::PatFieldMore
-            | Form::ExpComma
-            | Form::ExpFieldMore
-            | Form::ColumnMore
-            | Form::ValueMore
-            | Form::AssignmentMore
-            | Form::ItemMore
-            | Form::SourceMore
-            | Form::OrderMore => &[Kind::Comma],
-            Form::ConFieldTypes | Form::ConRowFields | Form::FieldName | Form::ExpFields => &[
-                Kind::Hash,
-                Kind::LowerName,
-                Kind::UpperName,
-                Kind::Integer,
-            ],
-            Form::ConFieldValue => &[Kind::EqualSign],
-            Form::Path | Form::AnyName => &[Kind::LowerName, Kind::UpperName],
-            Form::UpperDot | Form::UpperPath | Form::Constructor | Form::Assignment => &[
-                Kind::UpperName,
-            ],
-            Form::BracketOpen | Form::Splice => &[Kind::LeftBracket],
-            Form::BracketRest => &[
-                Kind::Hash,
-                Kind::Dollar,
-                Kind::LeftParenthesis,
-                Kind::LeftBracket,
-                Kind::RightBracket,
-                Kind::LeftBrace,
-                Kind::Underscore,
-                Kind::LowerName,
-                Kind::UpperName,
-                Kind::Integer,
-            ],
-            Form::BracketFields => &[Kind::Comma, Kind::EqualSign, Kind::RightBracket],
-            Form::BracketNameRest => &[
-                Kind::Hash,
-                Kind::Dollar,
-                Kind::LeftParenthesis,
-                Kind::DoublePlus,
-                Kind::Comma,
-                Kind::Dot,
-                Kind::EqualSign,
-                Kind::LeftBracket,
-                Kind::RightBracket,
-                Kind::LeftBrace,
-                Kind::Tilde,
-                Kind::Underscore,
-                Kind::LowerName,
-                Kind::UpperName,
-            ],
-            Form::BracketUpperRest => &[
-                Kind::Comma,
-                Kind::Dot,
-                Kind::EqualSign,
-                Kind::RightBracket,
-            ],
-            Form::NameSides => &[
-                Kind::Hash,
-                Kind::Dollar,
-                Kind::LeftParenthesis,
-                Kind::DoublePlus,
-                Kind::Dot,
-                Kind::LeftBracket,
-                Kind::LeftBrace,
-                Kind::Tilde,
-                Kind::Underscore,
-                Kind::LowerName,
-                Kind::UpperName,
-            ],
-            Form::IntSides => &[Kind::Integer],
-            Form::Pat | Form::PatTerm | Form::PatAtom | Form::Arg => &[
-                Kind::LeftParenthesis,
-                Kind::Dash,
-                Kind::LeftBracket,
-                Kind::LeftBrace,
-                Kind::Underscore,
-                Kind::LowerName,
-                Kind::UpperName,
-                Kind::Integer,
-                Kind::StringLiteral,
-            ],
-            Form::PatParenRest => &[
-                Kind::LeftParenthesis,
-                Kind::RightParenthesis,
-                Kind::Dash,
-                Kind::LeftBracket,
-                Kind::LeftBrace,
-                Kind::Underscore,
-                Kind::LowerName,
-                Kind::UpperName,
-                Kind::Integer,
-                Kind::StringLiteral,
-            ],
-            Form::PatParenEnd | Form::ParenEnd => &[
-                Kind::RightParenthesis,
-                Kind::Comma,
-                Kind::Colon,
-            ],
-            Form::PatRecordRest => &[
-                Kind::Hash,
-                Kind::Comma,
-                Kind::RightBrace,
-                Kind::LowerName,
-                Kind::UpperName,
-                Kind::Integer,
-            ],
-            Form::PatFieldNext => &[
-                Kind::Hash,
-                Kind::Ellipsis,
-                Kind::LowerName,
-                Kind::UpperName,
-                Kind::Integer,
-            ],
-            Form::ArgBracketRest => &[
-                Kind::Hash,
-                Kind::Dollar,
-                Kind::LeftParenthesis,
-                Kind::LeftBracket,
-                Kind::RightBracket,
-                Kind::LeftBrace,
-                Kind::Underscore,
-                Kind::LowerName,
-                Kind::UpperName,
-            ],
-            Form::ArgLowerRest => &[
-                Kind::Hash,
-                Kind::Dollar,
-                Kind::LeftParenthesis,
-                Kind::DoublePlus,
-                Kind::Dot,
-                Kind::DoubleColon,
-                Kind::TripleColon,
-                Kind::LeftBracket,
-                Kind::RightBracket,
-                Kind::LeftBrace,
-                Kind::Tilde,
-                Kind::Underscore,
-                Kind::LowerName,
-                Kind::UpperName,
-            ],
-            Form::Exp | Form::NodeBraceRest | Form::SqlBraceRest => &[
-                Kind::KeywordCase,
-                Kind::KeywordFn,
-                Kind::KeywordIf,
-                Kind::KeywordLet,
-                Kind::LeftParenthesis,
-                Kind::Dash,
-                Kind::XmlEmpty,
-                Kind::XmlOpen,
-                Kind::AtSign,
-                Kind::DoubleAtSign,
-                Kind::LeftBracket,
-                Kind::LeftBrace,
-                Kind::Underscore,
-                Kind::LowerName,
-                Kind::UpperName,
-                Kind::Integer,
-                Kind::StringLiteral,
-            ],
-            Form::ExpBindRest => &[Kind::LeftArrow],
-            Form::ExpThen => &[Kind::Semicolon],
-            Form::Term => &[
-                Kind::KeywordCase,
-                Kind::KeywordFn,
-                Kind::KeywordIf,
-                Kind::KeywordLet,
-                Kind::LeftParenthesis,
-                Kind::Dash,
-                Kind::XmlEmpty,
-                Kind::XmlOpen,
-                Kind::AtSign,
-                Kind::DoubleAtSign,
-                Kind::LeftBracket,
-                Kind::LeftBrace,
-                Kind::LowerName,
-                Kind::UpperName,
-                Kind::Integer,
-                Kind::StringLiteral,
-            ],
-            Form::CaseBar | Form::CaseMore | Form::ConstructorMore => &[Kind::Bar],
-            Form::Body => &[
-                Kind::KeywordIf,
-                Kind::KeywordLet,
-                Kind::LeftParenthesis,
-                Kind::Dash,
-                Kind::XmlEmpty,
-                Kind::XmlOpen,
-                Kind::AtSign,
-                Kind::DoubleAtSign,
-                Kind::LeftBracket,
-                Kind::LeftBrace,
-                Kind::LowerName,
-                Kind::UpperName,
-                Kind::Integer,
-                Kind::StringLiteral,
-            ],
-            Form::Or
-            | Form::And
-            | Form::Compare
-            | Form::Cons
-            | Form::Join
-            | Form::Sum
-            | Form::Product
-            | Form::Sign => &[
-                Kind::KeywordLet,
-                Kind::LeftParenthesis,
-                Kind::Dash,
-                Kind::XmlEmpty,
-                Kind::XmlOpen,
-                Kind::AtSign,
-                Kind::DoubleAtSign,
-                Kind::LeftBracket,
-                Kind::LeftBrace,
-                Kind::LowerName,
-                Kind::UpperName,
-                Kind::Integer,
-                Kind::StringLiteral,
-            ],
-            Form::OrMore => &[Kind::DoubleBar],
-            Form::AndMore => &[Kind::DoubleAmpersand],
-            Form::CompareMore | Form::SqlCompareMore => &[
-                Kind::LessThan,
-                Kind::LessOrEqual,
-                Kind::NotEqual,
-                Kind::EqualSign,
-                Kind::GreaterThan,
-                Kind::GreaterOrEqual,
-            ],
-            Form::JoinMore => &[Kind::DoublePlus, Kind::Caret],
-            Form::SumMore | Form::SqlSumMore => &[Kind::Plus, Kind::Dash],
-            Form::ProductMore | Form::SqlProductMore => &[Kind::Percent, Kind::Star, Kind::Slash],
-            Form::Cut | Form::Apply | Form::Atom => &[
-                Kind::KeywordLet,
-                Kind::LeftParenthesis,
-                Kind::XmlEmpty,
-                Kind::XmlOpen,
-                Kind::AtSign,
-                Kind::DoubleAtSign,
-                Kind::LeftBracket,
-                Kind::LeftBrace,
-                Kind::LowerName,
-                Kind::UpperName,
-                Kind::Integer,
-                Kind::StringLiteral,
-            ],
-            Form::CutMore => &[Kind::DoubleDash, Kind::TripleDash],
-            Form::Argument => &[
-                Kind::KeywordLet,
-                Kind::Exclamation,
-                Kind::LeftParenthesis,
-                Kind::XmlEmpty,
-                Kind::XmlOpen,
-                Kind::AtSign,
-                Kind::DoubleAtSign,
-                Kind::LeftBracket,
-                Kind::LeftBrace,
-                Kind::LowerName,
-                Kind::UpperName,
-                Kind::Integer,
-                Kind::StringLiteral,
-            ],
-            Form::ArgumentRest => &[
-                Kind::KeywordFn,
-                Kind::Hash,
-                Kind::Dollar,
-                Kind::LeftParenthesis,
-                Kind::LeftBracket,
-                Kind::RightBracket,
-                Kind::LeftBrace,
-                Kind::Underscore,
-                Kind::LowerName,
-                Kind::UpperName,
-            ],
-            Form::Operand | Form::Primary => &[
-                Kind::KeywordLet,
-                Kind::LeftParenthesis,
-                Kind::XmlEmpty,
-                Kind::XmlOpen,
-                Kind::AtSign,
-                Kind::DoubleAtSign,
-                Kind::LeftBrace,
-                Kind::LowerName,
-                Kind::UpperName,
-                Kind::Integer,
-                Kind::StringLiteral,
-            ],
-            Form::ParenRest => &[
-                Kind::KeywordCase,
-                Kind::KeywordFn,
-                Kind::KeywordIf,
-                Kind::KeywordLet,
-                Kind::SqlDelete,
-                Kind::SqlInsert,
-                Kind::SqlSelect,
-                Kind::SqlUpdate,
-                Kind::SqlWhere,
-                Kind::LeftParenthesis,
-                Kind::RightParenthesis,
-                Kind::Dash,
-                Kind::XmlEmpty,
-                Kind::XmlOpen,
-                Kind::AtSign,
-                Kind::DoubleAtSign,
-                Kind::LeftBracket,
-                Kind::LeftBrace,
-                Kind::Underscore,
-                Kind::LowerName,
-                Kind::UpperName,
-                Kind::Integer,
-                Kind::StringLiteral,
-            ],
-            Form::Node => &[Kind::LeftBrace, Kind::TextRun, Kind::TagOpen],
-            Form::TagName | Form::ItemBracesRow | Form::TableBraces | Form::TableBracesExp => &[
-                Kind::LeftBrace,
-            ],
-            Form::ElementEnd => &[Kind::GreaterThan, Kind::TagSelfClose],
-            Form::Attribute => &[Kind::AttributeName],
-            Form::AttributeValue => &[Kind::LeftBrace, Kind::Integer, Kind::StringLiteral],
-            Form::Decl => &[
-                Kind::KeywordCon,
-                Kind::KeywordCookie,
-                Kind::KeywordDatatype,
-                Kind::KeywordFun,
-                Kind::KeywordSequence,
-                Kind::KeywordTable,
-                Kind::KeywordType,
-                Kind::KeywordVal,
-            ],
-            Form::LetDecl => &[Kind::KeywordFun, Kind::KeywordVal],
-            Form::ValRest => &[Kind::KeywordRec, Kind::LowerName],
-            Form::RecMore | Form::FunMore => &[Kind::KeywordAnd],
-            Form::TypeMark => &[Kind::Colon],
-            Form::Parameter => &[Kind::LowerName],
-            Form::ConstructorOf => &[Kind::KeywordOf],
-            Form::KeyMark => &[Kind::SqlPrimary],
-            Form::KeyColumns => &[Kind::LeftParenthesis, Kind::UpperName],
-            Form::ColumnList | Form::ValueList => &[Kind::LeftParenthesis],
-            Form::InterfaceItem => &[Kind::KeywordVal],
-            Form::Sql => &[
-                Kind::SqlDelete,
-                Kind::SqlInsert,
-                Kind::SqlSelect,
-                Kind::SqlUpdate,
-                Kind::SqlWhere,
-            ],
-            Form::Where => &[Kind::SqlWhere],
-            Form::OrderBy => &[Kind::SqlOrder],
-            Form::Limit => &[Kind::SqlLimit],
-            Form::Offset => &[Kind::SqlOffset],
-            Form::Selection => &[
-                Kind::SqlFalse,
-                Kind::SqlNot,
-                Kind::SqlTrue,
-                Kind::LeftParenthesis,
-                Kind::Star,
-                Kind::Dash,
-                Kind::LeftBrace,
-                Kind::LowerName,
-                Kind::UpperName,
-                Kind::Integer,
-                Kind::StringLiteral,
-            ],
-            Form::Item | Form::Order | Form::SqlOr | Form::SqlAnd | Form::SqlNot => &[
-                Kind::SqlFalse,
-                Kind::SqlNot,
-                Kind::SqlTrue,
-                Kind::LeftParenthesis,
-                Kind::Dash,
-                Kind::LeftBrace,
-                Kind::LowerName,
-                Kind::UpperName,
-                Kind::Integer,
-                Kind::StringLiteral,
-            ],
-            Form::ItemUpperRest => &[
-                Kind::SqlAnd,
-                Kind::SqlAs,
-                Kind::SqlOr,
-                Kind::Percent,
-                Kind::Star,
-                Kind::Plus,
-                Kind::Dash,
-                Kind::Dot,
-                Kind::Slash,
-                Kind::LessThan,
-                Kind::LessOrEqual,
-                Kind::NotEqual,
-                Kind::EqualSign,
-                Kind::GreaterThan,
-                Kind::GreaterOrEqual,
-            ],
-            Form::ItemDot => &[Kind::Star, Kind::LeftBrace, Kind::UpperName],
-            Form::ItemNamed => &[
-                Kind::SqlAnd,
-                Kind::SqlAs,
-                Kind::SqlOr,
-                Kind::Percent,
-                Kind::Star,
-                Kind::Plus,
-                Kind::Dash,
-                Kind::Slash,
-                Kind::LessThan,
-                Kind::LessOrEqual,
-                Kind::NotEqual,
-                Kind::EqualSign,
-                Kind::GreaterThan,
-                Kind::GreaterOrEqual,
-            ],
-            Form::Source | Form::TableRef => &[Kind::LeftBrace, Kind::LowerName, Kind::UpperName],
-            Form::AsMark => &[Kind::SqlAs],
-            Form::Direction => &[Kind::SqlAsc, Kind::SqlDesc],
-            Form::Count => &[Kind::LeftBrace, Kind::Integer],
-            Form::SqlOrMore => &[Kind::SqlOr],
-            Form::SqlAndMore => &[Kind::SqlAnd],
-            Form::SqlCompare | Form::SqlSum | Form::SqlProduct | Form::SqlTerm => &[
-                Kind::SqlFalse,
-                Kind::SqlTrue,
-                Kind::LeftParenthesis,
-                Kind::Dash,
-                Kind::LeftBrace,
-                Kind::LowerName,
-                Kind::UpperName,
-                Kind::Integer,
-                Kind::StringLiteral,
-            ],
+        let form = self;
+        words! { form,
+            KindTerm KindAtom = ("Type" "Unit" "Name" "{" "(")
+            KindArrow ConArrow = ("->")
+            KindTimes ConTimes = ("*")
+            KindMark PatCons ConsMore = ("::")
+            Con = ("fn" lower "[" "$" upper "_" "#" "(" "{")
+            ConForall = ("::" ":::")
+            ConProduct ConSum ConApply ConTerm GuardSides = ("$" upper lower "_" "#" "(" "{" "[")
+            ConConcat = ("++")
+            ConDollar = ("$")
+            ConPrimary ConAtom = (upper lower "_" "#" "(" "{" "[")
+            ConIndex PathSides DotUpper Dot = (".")
+            HashName BracketHashRest = (upper int)
+            ConParenRest = (")" "fn" lower "[" "$" upper "_" "#" "(" "{")
+            ConParenEnd = (")" "::" ",")
+            ConComma ConFieldMore ConRowMore PatComma PatFieldMore ExpComma ExpFieldMore ColumnMore
+                ValueMore AssignmentMore ItemMore SourceMore OrderMore = (",")
+            ConFieldTypes ConRowFields FieldName ExpFields = (upper int "#" lower)
+            ConFieldValue = ("=")
+            Path = (upper lower)
+            UpperDot UpperPath Constructor Assignment = (upper)
+            BracketOpen Splice = ("[")
+            BracketRest = ("]" int lower upper "#" "$" "_" "(" "{" "[")
+            BracketFields = ("=" "," "]")
+            BracketNameRest = ("=" "," "]" "." "$" upper lower "_" "#" "(" "{" "[" "++" "~")
+            BracketUpperRest = ("=" "," "]" ".")
+            NameSides = ("." "$" upper lower "_" "#" "(" "{" "[" "++" "~")
+            IntSides = (int)
+            Pat PatTerm = (upper "_" lower int "-" string "[" "(" "{")
+            PatAtom = ("_" lower int "-" string upper "[" "(" "{")
+            PatParenRest = (")" upper "_" lower int "-" string "[" "(" "{")
+            PatParenEnd ParenEnd = (")" ":" ",")
+            PatRecordRest = ("}" "," upper int "#" lower)
+            PatFieldNext = ("..." upper int "#" lower)
+            Arg = ("_" lower int "-" string upper "(" "{" "[")
+            ArgBracketRest = ("]" lower "$" upper "_" "#" "(" "{" "[")
+            ArgLowerRest = ("]" "::" ":::" "." "$" upper lower "_" "#" "(" "{" "[" "++" "~")
+            Exp = (upper "_" lower int "-" string "[" "(" "{" "fn" "case" "if" "@" "@@" "let" "<xml/>"
+                "<xml>")
+            ExpBindRest = ("<-")
+            ExpThen = (";")
+            Term = ("fn" "case" "if" "-" int string lower upper "@" "@@" "(" "{" "let" "<xml/>" "<xml>" "[")
+            CaseBar CaseMore ConstructorMore = ("|")
+            Body = ("if" "-" int string lower upper "@" "@@" "(" "{" "let" "<xml/>" "<xml>" "[")
+            Or And Compare Cons Join Sum Product Sign = ("-" int string lower upper "@" "@@" "(" "{" "let"
+                "<xml/>" "<xml>" "[")
+            OrMore = ("||")
+            AndMore = ("&&")
+            CompareMore SqlCompareMore = ("=" "<>" "<" "<=" ">" ">=")
+            JoinMore = ("^" "++")
+            SumMore SqlSumMore = ("+" "-")
+            ProductMore SqlProductMore = ("*" "/" "%")
+            Cut Apply Atom = (int string lower upper "@" "@@" "(" "{" "let" "<xml/>" "<xml>" "[")
+            CutMore = ("--" "---")
+            Argument = (int string lower upper "@" "@@" "(" "{" "let" "<xml/>" "<xml>" "[" "!")
+            ArgumentRest = ("]" "fn" lower "[" "$" upper "_" "#" "(" "{")
+            Operand Primary = (int string lower upper "@" "@@" "(" "{" "let" "<xml/>" "<xml>")
+            AnyName = (lower upper)
+            ParenRest = (")" upper "_" lower int "-" string "[" "(" "{" "fn" "case" "if" "@" "@@" "let"
+                "<xml/>" "<xml>" "SELECT" "INSERT" "UPDATE" "DELETE" "WHERE")
+            Node = (text "{" open_tag)
+            NodeBraceRest SqlBraceRest = ("[" upper "_" lower int "-" string "(" "{" "fn" "case" "if" "@"
+                "@@" "let" "<xml/>" "<xml>")
+            TagName ItemBracesRow TableBraces TableBracesExp = ("{")
+            ElementEnd = ("/>" ">")
+            Attribute = (name)
+            AttributeValue = (string int "{")
+            Decl = ("val" "fun" "con" "type" "datatype" "table" "sequence" "cookie")
+            LetDecl = ("val" "fun")
+            ValRest = (lower "rec")
+            RecMore FunMore = ("and")
+            TypeMark = (":")
+            Parameter = (lower)
+            ConstructorOf = ("of")
+            KeyMark = ("PRIMARY")
+            KeyColumns = (upper "(")
+            ColumnList ValueList = ("(")
+            InterfaceItem = ("val")
+            Sql = ("SELECT" "INSERT" "UPDATE" "DELETE" "WHERE")
+            Where = ("WHERE")
+            OrderBy = ("ORDER")
+            Limit = ("LIMIT")
+            Offset = ("OFFSET")
+            Selection = ("*" lower upper "NOT" "-" int string "TRUE" "FALSE" "{" "(")
+            Item = (lower upper "NOT" "-" int string "TRUE" "FALSE" "{" "(")
+            ItemUpperRest = ("." "*" "/" "%" "+" "-" "=" "<>" "<" "<=" ">" ">=" "AND" "OR" "AS")
+            ItemDot = (upper "*" "{")
+            ItemNamed = ("*" "/" "%" "+" "-" "=" "<>" "<" "<=" ">" ">=" "AND" "OR" "AS")
+            Source TableRef = (upper lower "{")
+            AsMark = ("AS")
+            Order SqlOr SqlAnd SqlNot = ("NOT" "-" int string "TRUE" "FALSE" lower upper "{" "(")
+            Direction = ("ASC" "DESC")
+            Count = (int "{")
+            SqlOrMore = ("OR")
+            SqlAndMore = ("AND")
+            SqlCompare SqlSum SqlProduct SqlTerm = ("-" int string "TRUE" "FALSE" lower upper "{" "(")
         }
     }
 

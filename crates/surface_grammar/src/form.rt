@@ -1,7 +1,7 @@
 //! The names of the forms of the grammar, in the grammar's order.
 
 /// A form: what the rules of the grammar give a shape to.
-#[derive(Clone, Copy, Debug, PartialEq, Eq)]
+#[derive(Clone, Copy)]
 pub enum Form {
     // Kinds.
     KindTerm,

@@ -8,6 +8,7 @@ pub mod fault;
 pub mod first;
 pub mod form;
 pub mod kinds;
+pub mod laws;
 pub mod markup;
 pub mod parameters;
 pub mod part;
@@ -15,6 +16,7 @@ pub mod patterns;
 pub mod queries;
 pub mod rule;
 pub mod sides;
+mod table;
 pub mod tree;
 pub mod words;
 

@@ -3,7 +3,7 @@ use crate::Form;
 use surface_tree::Kind;
 
 /// A part of a rule.
-#[derive(Clone, Copy, Debug, PartialEq, Eq)]
+#[derive(Clone, Copy)]
 pub enum Part {
     /// One token of this kind.
     Word(Kind),

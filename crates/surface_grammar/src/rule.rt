@@ -17,7 +17,7 @@ use surface_tree::Kind;
 
 /// A rule: one way in which a tree of a form is made. `{x}` in its line is any number of `x`, and
 /// `[x]` is one `x` or none.
-#[derive(Clone, Copy, Debug, PartialEq, Eq)]
+#[derive(Clone, Copy)]
 pub enum Rule {
     /// Of kinds.
     Kind(KindRule),

@@ -8,7 +8,7 @@ use std::marker::Model;
 use surface_tree::Token;
 
 /// A mark of the listing.
-#[derive(Clone, Copy, Debug, PartialEq, Eq)]
+#[derive(Clone, Copy)]
 pub enum Mark {
     /// The next token.
     Leaf,
@@ -21,7 +21,7 @@ pub enum Mark {
 }
 
 /// A concrete tree. Contracts see its tokens and its marks.
-#[derive(Debug, Drop)]
+#[derive(Drop)]
 pub struct Tree {
     leaves: Vec<Token>,
     marks: Vec<Mark>,

@@ -8,7 +8,7 @@ use surface_tree::{Content, Kind};
 use table_rows::Text;
 
 /// A token, how many bytes it takes, and what it does to the mode.
-#[derive(Debug, Drop)]
+#[derive(Drop)]
 pub struct Found {
     pub kind: Kind,
     pub content: Content,

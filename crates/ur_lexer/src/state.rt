@@ -6,7 +6,7 @@ use std::alloc::{AllocError, Global};
 use std::marker::Model;
 
 /// How the bytes are read.
-#[derive(Clone, Copy, Debug, PartialEq, Eq)]
+#[derive(Clone, Copy, PartialEq, Eq)]
 pub enum Mode {
     /// Declarations and expressions.
     Code,
@@ -17,7 +17,7 @@ pub enum Mode {
 }
 
 /// What is open around a place.
-#[derive(Clone, Copy, Debug, PartialEq, Eq)]
+#[derive(Clone, Copy, PartialEq, Eq)]
 pub enum Open {
     /// A brace, with the mode that it was met in.
     Brace(Mode),
@@ -28,7 +28,7 @@ pub enum Open {
 }
 
 /// What a token does to the mode and to what is open.
-#[derive(Clone, Copy, Debug, PartialEq, Eq)]
+#[derive(Clone, Copy, PartialEq, Eq)]
 pub enum Turn {
     /// Nothing.
     Stay,
@@ -49,7 +49,7 @@ pub enum Turn {
 }
 
 /// The mode, and what is open around, the innermost last.
-#[derive(Debug, Drop)]
+#[derive(Drop)]
 pub struct State {
     mode: Mode,
     around: Vec<Open>,

@@ -30,6 +30,8 @@ use Rattle.surface_grammar.specs.Trees.{Node, leaf, branch, several, absent, pre
 use Rattle.ur_parser.specs.Words.{Word, Sign, Holding, word, words_of}
 use Rattle.ur_parser.specs.Small.{Title, NoTitle, Quoted, Braced, Main, Nodes as Small, NoNode, Text, Splice, Element, Closed, Void, nesting, opening, spell_title, spell_nodes, spell_type}
 use Rattle.ur_parser.specs.Sources.{module_part, SmallModulesAreModules}
+use Rattle.grammar_engine.proofs.Keeping.Grown.{front_append}
+use Rattle.grammar_engine.proofs.Keeping.Allowing.{among_none}
 
 -- a token that holds nothing stands first
 record Signed (kind : Kind) (ts : List Token) (ws : List Word) : Type 0 where
@@ -76,14 +78,6 @@ plain kind at = record { kind = kind; at = at; content = Nothing }
 
 abbrev holding : Kind → ℕ → List ℕ → Token
 holding kind at text = record { kind = kind; at = at; content = Characters text }
-
-front_append : (a b : List Token) (x : Option Kind) → front (a ++ b) x ≡ front a (front b x)
-front_append [] b x = refl
-front_append (t ∷ a) b x = refl
-
-no_bars : (x : Option Kind) → among [] x ≡ false
-no_bars None = refl
-no_bars (Some x) = refl
 
 never : {X : Type 0} → ◌≡◌ {A = Bool} false true → X
 never e = absurd (cc e)
@@ -148,17 +142,17 @@ Ends x = (must_go_on f.ExpThen x ≡ false) × (must_go_on f.OrMore x ≡ false)
 
 exp_fits : (room : ℕ) (name : Content) (a : Node) (x : Option Kind) → Ends x → Fits room name a (One f.Apply) x → Fits room name (exp_of a) (One f.Exp) x
 exp_fits room name a x (e1, e2, e3, e4, e5, e6, e7, e8, e9) fits =
-    let cut = same_depth room name (r.Exp exp.Cut) f.Cut (two a (several none)) x (inl refl) refl (no_bars _) (fits, (e9, tt)) in
-    let sign = same_depth room name (r.Exp exp.SignNone) f.Sign (one (cut_node a)) x (inr (inl refl)) refl (no_bars _) (cut, tt) in
-    let product = same_depth room name (r.Exp exp.Product) f.Product (two (sign_node a) (several none)) x (inl refl) refl (no_bars _) (sign, (e8, tt)) in
-    let sum = same_depth room name (r.Exp exp.Sum) f.Sum (two (product_node a) (several none)) x (inl refl) refl (no_bars _) (product, (e7, tt)) in
-    let join = same_depth room name (r.Exp exp.Join) f.Join (two (sum_node a) (several none)) x (inl refl) refl (no_bars _) (sum, (e6, tt)) in
-    let cons = same_depth room name (r.Exp exp.Cons) f.Cons (two (join_node a) absent) x (inl refl) refl (no_bars _) (join, (e5, tt)) in
-    let compare = same_depth room name (r.Exp exp.Compare) f.Compare (two (cons_node a) absent) x (inl refl) refl (no_bars _) (cons, (e4, tt)) in
-    let both = same_depth room name (r.Exp exp.And) f.And (two (compare_node a) (several none)) x (inl refl) refl (no_bars _) (compare, (e3, tt)) in
-    let either = same_depth room name (r.Exp exp.Or) f.Or (two (both_node a) (several none)) x (inl refl) refl (no_bars _) (both, (e2, tt)) in
-    let term = same_depth room name (r.Exp exp.TermOr) f.Term (one (either_node a)) x (inr (inr (inr (inl refl)))) refl (no_bars _) (either, tt) in
-    same_depth room name (r.Exp exp.ExpPlain) f.Exp (two (term_node a) absent) x (inr (inl refl)) refl (no_bars _) (term, (e1, tt))
+    let cut = same_depth room name (r.Exp exp.Cut) f.Cut (two a (several none)) x (inl refl) refl (among_none _) (fits, (e9, tt)) in
+    let sign = same_depth room name (r.Exp exp.SignNone) f.Sign (one (cut_node a)) x (inr (inl refl)) refl (among_none _) (cut, tt) in
+    let product = same_depth room name (r.Exp exp.Product) f.Product (two (sign_node a) (several none)) x (inl refl) refl (among_none _) (sign, (e8, tt)) in
+    let sum = same_depth room name (r.Exp exp.Sum) f.Sum (two (product_node a) (several none)) x (inl refl) refl (among_none _) (product, (e7, tt)) in
+    let join = same_depth room name (r.Exp exp.Join) f.Join (two (sum_node a) (several none)) x (inl refl) refl (among_none _) (sum, (e6, tt)) in
+    let cons = same_depth room name (r.Exp exp.Cons) f.Cons (two (join_node a) absent) x (inl refl) refl (among_none _) (join, (e5, tt)) in
+    let compare = same_depth room name (r.Exp exp.Compare) f.Compare (two (cons_node a) absent) x (inl refl) refl (among_none _) (cons, (e4, tt)) in
+    let both = same_depth room name (r.Exp exp.And) f.And (two (compare_node a) (several none)) x (inl refl) refl (among_none _) (compare, (e3, tt)) in
+    let either = same_depth room name (r.Exp exp.Or) f.Or (two (both_node a) (several none)) x (inl refl) refl (among_none _) (both, (e2, tt)) in
+    let term = same_depth room name (r.Exp exp.TermOr) f.Term (one (either_node a)) x (inr (inr (inr (inl refl)))) refl (among_none _) (either, tt) in
+    same_depth room name (r.Exp exp.ExpPlain) f.Exp (two (term_node a) absent) x (inr (inl refl)) refl (among_none _) (term, (e1, tt))
 
 -- an expression that is a string
 abbrev string_primary : ℕ → List ℕ → Node
@@ -175,8 +169,8 @@ string_node at text = exp_of (branch (r.Exp exp.Apply) (two (atom_node (string_p
 
 atom_fits : (room : ℕ) (name : Content) (primary : Node) (x : Option Kind) → must_go_on f.Dot x ≡ false → Fits room name primary (One f.Primary) x → Fits room name (atom_node primary) (One f.Atom) x
 atom_fits room name primary x e fits =
-    let operand = same_depth room name (r.Exp exp.Operand) f.Operand (two primary (several none)) x (inl refl) refl (no_bars _) (fits, (e, tt)) in
-    same_depth room name (r.Exp exp.AtomTerm) f.Atom (one (operand_node primary)) x (inl refl) refl (no_bars _) (operand, tt)
+    let operand = same_depth room name (r.Exp exp.Operand) f.Operand (two primary (several none)) x (inl refl) refl (among_none _) (fits, (e, tt)) in
+    same_depth room name (r.Exp exp.AtomTerm) f.Atom (one (operand_node primary)) x (inl refl) refl (among_none _) (operand, tt)
 
 string_fits : (room : ℕ) (name : Content) (at : ℕ) (text : List ℕ) (x : Option Kind) → Ends x → must_go_on f.Argument x ≡ false → must_go_on f.Dot x ≡ false
     → Fits room name (string_node at text) (One f.Exp) x

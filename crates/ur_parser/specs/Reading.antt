@@ -1,4 +1,5 @@
--- The reading of the small form as a computation: what stands at the front of tokens, and what the reading of nodes does next.
+-- The reading of the small form as a computation: what stands at the front of tokens, and what the reading of nodes
+-- does next.
 use Rattle.std.specs.Prelude.{◌≡◌, ℕ, suc, Bool, true, false, if◌then◌else◌, List, [], ◌∷◌, length, nat_lt, codes, unwrap_or, Option, Some, None, Result, Ok, Err}
 use Rattle.std.specs.Option.{option_and_then, option_map, option_map_or}
 use Rattle.std.specs.Str.{bytes_eq}
@@ -46,7 +47,8 @@ held kind (Holding found text ∷ words) = if same_kind found kind then Some (te
 
 -- the words behind this one, which holds a name
 abbrev pub after_named : Kind → List ℕ → List Word → Option (List Word)
-after_named kind name words = option_and_then (λ found. if bytes_eq found.0 name then Some found.1 else None) (held kind words)
+after_named kind name words =
+    option_and_then (λ found. if bytes_eq found.0 name then Some found.1 else None) (held kind words)
 
 -- `fun main ()`
 abbrev pub after_main : List Word → Option (List Word)
@@ -88,7 +90,9 @@ ends_page words = option_map_or is_end (after XmlClose words) false
 -- the string of `[ string ] }`, and the words behind it
 abbrev pub splice : List Word → Option (List ℕ × List Word)
 splice words =
-    option_and_then (λ found. option_map (λ rest. (found.0, rest)) (option_and_then (after RightBrace) (after RightBracket found.1)))
+    option_and_then
+    (λ found. option_map (λ rest. (found.0, rest))
+    (option_and_then (after RightBrace) (after RightBracket found.1)))
     (option_and_then (held StringLiteral) (after LeftBracket words))
 
 -- the string of `{ string }`, and the words behind it
@@ -117,13 +121,15 @@ attributes (Some text) = Titled text ∷ []
 abbrev pub tag_named : List ℕ → Option Tag
 tag_named name = option_and_then simple_tag (source.tag_named name)
 
--- where the reading of nodes stands: the names of the open elements, the innermost first, the page so far, and the words that are left
+-- where the reading of nodes stands: the names of the open elements, the innermost first, the page so far, and the
+-- words that are left
 abbrev pub Step : Type 0
 Step = List Name × Built × List Word
 
 -- a tag that never holds anything
 abbrev pub void : List Name → Built → Tag → List Word → Option Step
-void names page tag words = option_map (λ rest. (names, ended (Within page tag [] Nothing), rest)) (after TagSelfClose words)
+void names page tag words =
+    option_map (λ rest. (names, ended (Within page tag [] Nothing), rest)) (after TagSelfClose words)
 
 -- an element with these attributes, begun or closed at once
 abbrev pub filled : List Name → Built → Tag → List Attr → List Word → Option Step
@@ -134,18 +140,21 @@ filled names page tag attrs words =
 
 -- an element
 abbrev pub element : List Name → Built → Tag → List Word → Option Step
-element names page tag words = option_and_then (λ found. filled names page tag (attributes found.0) found.1) (title words)
+element names page tag words =
+    option_and_then (λ found. filled names page tag (attributes found.0) found.1) (title words)
 
 -- what begins with this name
 abbrev pub begun : List Name → Built → List ℕ → List Word → Option Step
 begun names page name words =
     if nat_lt most_nested (length names) then None
-    else option_and_then (λ tag. if is_void tag then void names page tag words else element names page tag words) (tag_named name)
+    else option_and_then (λ tag. if is_void tag then void names page tag words else element names page tag words)
+    (tag_named name)
 
 -- the innermost open element ends, if it has this name
 abbrev pub closed : List Name → Built → List ℕ → List Word → Option Step
 closed [] page name words = None
-closed (innermost ∷ names) page name words = if bytes_eq (name_bytes innermost) name then Some (names, ended page, words) else None
+closed (innermost ∷ names) page name words =
+    if bytes_eq (name_bytes innermost) name then Some (names, ended page, words) else None
 
 -- a text
 abbrev pub said : List Name → Built → List ℕ → List Word → Step

@@ -14,8 +14,8 @@ pub data Title : Type 0 where
   Quoted : List ℕ → Title
   Braced : List ℕ → Title
 
--- nodes one after another: none; a text, a string in braces and brackets, an element with what it holds, an element that
--- is closed at once, or a tag that never holds anything, each with the nodes after it
+-- nodes one after another: none; a text, a string in braces and brackets, an element with what it holds, an element
+-- that is closed at once, or a tag that never holds anything, each with the nodes after it
 pub data Nodes : Type 0 where
   NoNode : Nodes
   Text : List ℕ → Nodes → Nodes
@@ -65,16 +65,20 @@ closing tag = Holding TagClose (name_bytes (name_of tag))
 -- an attribute, and then `after`
 abbrev pub spell_title : Title → List Word → List Word
 spell_title NoTitle after = after
-spell_title (Quoted text) after = Holding AttributeName (codes "title") ∷ (Sign EqualSign ∷ (Holding StringLiteral text ∷ after))
+spell_title (Quoted text) after =
+    Holding AttributeName (codes "title") ∷ (Sign EqualSign ∷ (Holding StringLiteral text ∷ after))
 spell_title (Braced text) after =
-    Holding AttributeName (codes "title") ∷ (Sign EqualSign ∷ (Sign LeftBrace ∷ (Holding StringLiteral text ∷ (Sign RightBrace ∷ after))))
+    Holding AttributeName (codes "title") ∷
+    (Sign EqualSign ∷ (Sign LeftBrace ∷ (Holding StringLiteral text ∷ (Sign RightBrace ∷ after))))
 
 -- nodes, and then `after`
 abbrev pub spell_nodes : Nodes → List Word → List Word
 spell_nodes NoNode after = after
 spell_nodes (Text text rest) after = Holding TextRun text ∷ spell_nodes rest after
 spell_nodes (Splice text rest) after =
-    Sign LeftBrace ∷ (Sign LeftBracket ∷ (Holding StringLiteral text ∷ (Sign RightBracket ∷ (Sign RightBrace ∷ spell_nodes rest after))))
+    Sign LeftBrace ∷
+    (Sign LeftBracket ∷
+    (Holding StringLiteral text ∷ (Sign RightBracket ∷ (Sign RightBrace ∷ spell_nodes rest after))))
 spell_nodes (Element tag title inside rest) after =
     opening tag ∷ spell_title title (Sign GreaterThan ∷ spell_nodes inside (closing tag ∷ spell_nodes rest after))
 spell_nodes (Closed tag title rest) after = opening tag ∷ spell_title title (Sign TagSelfClose ∷ spell_nodes rest after)
@@ -83,13 +87,16 @@ spell_nodes (Void tag rest) after = opening tag ∷ (Sign TagSelfClose ∷ spell
 -- `: transaction page`, where it stands, and then `after`
 abbrev pub spell_type : Bool → List Word → List Word
 spell_type false after = after
-spell_type true after = Sign Colon ∷ (Holding LowerName (codes "transaction") ∷ (Holding LowerName (codes "page") ∷ after))
+spell_type true after =
+    Sign Colon ∷ (Holding LowerName (codes "transaction") ∷ (Holding LowerName (codes "page") ∷ after))
 
 -- `fun main ()`, its type where it stands, `= return <xml><body>`, and then `after`
 abbrev pub spell_opening : Bool → List Word → List Word
 spell_opening typed after =
-    Sign KeywordFun ∷ (Holding LowerName (codes "main") ∷ (Sign LeftParenthesis ∷ (Sign RightParenthesis ∷ spell_type typed
-    (Sign EqualSign ∷ (Holding LowerName (codes "return") ∷ (Sign XmlOpen ∷ (opening Body ∷ (Sign GreaterThan ∷ after))))))))
+    Sign KeywordFun ∷
+    (Holding LowerName (codes "main") ∷ (Sign LeftParenthesis ∷ (Sign RightParenthesis ∷ spell_type typed
+    (Sign EqualSign ∷
+    (Holding LowerName (codes "return") ∷ (Sign XmlOpen ∷ (opening Body ∷ (Sign GreaterThan ∷ after))))))))
 
 -- a module: its nodes stand before `</body></xml>`
 abbrev pub spell_module : Module → List Word

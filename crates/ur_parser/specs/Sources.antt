@@ -20,8 +20,9 @@ module_part = Many f.Decl
 abbrev pub interface_part : Part
 interface_part = Many f.InterfaceItem
 
--- The tokens are those of no module, for this fault: it tells the byte of the first token, or of the end, that no module of
--- at most 200 levels allows after the tokens before it; at TooDeep a deeper one allows it, at Syntax none does.
+-- The tokens are those of no module, for this fault: it tells the byte of the first token, or of the end, that no
+-- module of at most 200 levels allows after the tokens before it; at TooDeep a deeper one allows it, at Syntax none
+-- does.
 abbrev pub IsNoModule : TokenList → ParseFault → Type 0
 IsNoModule ts fault = FaultExact module_part ts fault
 
@@ -43,8 +44,11 @@ SmallModulesAreModules = (tokens : List Token) (m : Module) → IsSmall tokens m
 
 -- tokens have one fault at most; want of memory says nothing of them
 abbrev pub ModulesHaveOneFault : Type 0
-ModulesHaveOneFault = (ts : TokenList) (fault other : ParseFault) → IsNoModule ts fault → IsNoModule ts other → (fault ≡ Memory) ⊎ (other ≡ Memory) ⊎ (fault ≡ other)
+ModulesHaveOneFault =
+    (ts : TokenList) (fault other : ParseFault) → IsNoModule ts fault → IsNoModule ts other
+    → (fault ≡ Memory) ⊎ (other ≡ Memory) ⊎ (fault ≡ other)
 
 -- and none where they are those of a module
 abbrev pub ModulesAreNotRefused : Type 0
-ModulesAreNotRefused = (ts : TokenList) (fault : ParseFault) → IsModuleText ts.items → IsNoModule ts fault → fault ≡ Memory
+ModulesAreNotRefused =
+    (ts : TokenList) (fault : ParseFault) → IsModuleText ts.items → IsNoModule ts fault → fault ≡ Memory

@@ -10,8 +10,6 @@ mod open_names;
 pub mod small;
 pub mod sources;
 mod tags;
-#[cfg(test)]
-mod tests;
 
 pub use fault::SmallFault;
 pub use small::{Small, read_small};

@@ -32,7 +32,7 @@ fn attributes(alloc: Global, title: Option<&Text>) -> Result<Attrs, AllocError>
 }
 
 /// The page so far, and the elements of it that are open.
-#[derive(Debug, Drop)]
+#[derive(Drop)]
 pub struct Reader {
     pub names: OpenNames,
     pub page: Page,

@@ -6,7 +6,7 @@ use std::marker::Model;
 use xml_trees::Name;
 
 /// The names of the elements that are open. Contracts see the innermost first.
-#[derive(Debug, Drop)]
+#[derive(Drop)]
 pub struct OpenNames {
     names: Vec<Name>,
 }

@@ -15,7 +15,7 @@ use xml_trees::Page;
 pub const LONGEST: u32 = 65536;
 
 /// A module of the small form, by the page that its `main` returns.
-#[derive(Debug, Drop)]
+#[derive(Drop)]
 pub struct Small {
     pub page: Page,
 }

@@ -14,12 +14,12 @@ use Rattle.surface_grammar.specs.Forms.{rules_of}
 use Rattle.surface_grammar.specs.Table.{body_of}
 use Rattle.surface_grammar.specs.Trees.{Node, spell, Fits}
 use Rattle.surface_grammar.specs.Words.{accept}
-use Rattle.grammar_engine.proofs.Calm.{not_true}
-use Rattle.grammar_engine.proofs.Pieces.{Run, nil, cons, Pieces, Step, gather}
-use Rattle.grammar_engine.proofs.Ranks.{and_left, and_right, every, every_in}
-use Rattle.grammar_engine.proofs.Scanned.{accepted}
-use Rattle.grammar_engine.proofs.Skimmed.{is_after, after_kind, skim_at, skim, past, kind_facts, atom_past, past_kind}
-use Rattle.grammar_engine.proofs.EveryForm.{of_each}
+use Rattle.grammar_engine.proofs.Short.Calm.{not_true}
+use Rattle.grammar_engine.proofs.Trees.Pieces.{Run, nil, cons, Pieces, Step, gather}
+use Rattle.grammar_engine.proofs.Fronts.Scanned.{accepted}
+use Rattle.grammar_engine.proofs.Fronts.Skimmed.{is_after, after_kind, skim_at, skim, past, kind_facts, atom_past, past_kind}
+use Rattle.surface_grammar.proofs.Every.{of_each}
+use Rattle.grammar_engine.proofs.Bools.{and_left, and_right, every, every_in, unless, or_split}
 
 -- the forms in whose front no kind stands
 abbrev is_con_front : Form → Bool
@@ -98,10 +98,6 @@ breaks_after (One g ∷ ps) l p h rest = cc
 breaks_after (Many g ∷ ps) l p h rest = cc
 breaks_after (Maybe g ∷ ps) l p h rest = cc
 
-or_split : {A : Type 0} (b c : Bool) → (b || c) ≡ true → (b ≡ true → A) → (c ≡ true → A) → A
-or_split true c h l r = l refl
-or_split false c h l r = r h
-
 no_way : {A : Type 0} → false ≡ true → A
 no_way e = cc
 
@@ -129,10 +125,6 @@ field_pieces (Word w ∷ (p ∷ ps)) l (t, us, is, ok, more) h rest o = ap (λ z
 field_pieces (One g ∷ ps) l p h rest o = cc
 field_pieces (Many g ∷ ps) l p h rest o = cc
 field_pieces (Maybe g ∷ ps) l p h rest o = cc
-
-unless : (a b : Bool) → (not a || b) ≡ true → a ≡ true → b ≡ true
-unless true b h e = h
-unless false b h e = cc
 
 front_step : Step Fronted
 front_step g q ts i p =

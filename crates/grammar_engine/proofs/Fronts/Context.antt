@@ -16,13 +16,13 @@ use Rattle.surface_grammar.specs.Fronts.{first_kind}
 use Rattle.surface_grammar.specs.Table.{body_of}
 use Rattle.surface_grammar.specs.Trees.{Node, leaf, branch, several, absent, present, Nodes, none, more, spell, spell_all, front, any_accepts, begins, IsIn, Fits, FitsAll, FitsEach}
 use Rattle.surface_grammar.specs.Words.{kind_code, accept}
-use Rattle.grammar_engine.proofs.Calm.{not_true}
-use Rattle.grammar_engine.proofs.Leading.{node_led}
-use Rattle.grammar_engine.proofs.Ranks.{and_left, and_right, every, every_in}
-use Rattle.grammar_engine.proofs.Scan.{Turn, up, down, flat, turn_of, outside, after_token, scan}
-use Rattle.grammar_engine.proofs.Scanned.{accepted}
-use Rattle.grammar_engine.proofs.Skimmed.{exact}
-use Rattle.grammar_engine.proofs.EveryForm.{of_each}
+use Rattle.grammar_engine.proofs.Short.Calm.{not_true}
+use Rattle.grammar_engine.proofs.Trees.Leading.{node_led}
+use Rattle.grammar_engine.proofs.Fronts.Scan.{Turn, up, down, flat, turn_of, outside, after_token, scan}
+use Rattle.grammar_engine.proofs.Fronts.Scanned.{accepted}
+use Rattle.grammar_engine.proofs.Fronts.Skimmed.{exact}
+use Rattle.surface_grammar.proofs.Every.{of_each}
+use Rattle.grammar_engine.proofs.Bools.{and_left, and_right, every, every_in, unless, or_split, clash}
 
 -- a tree of the form may end with an expression, with a constructor
 abbrev pub is_exp_tail : Form → Bool
@@ -175,10 +175,6 @@ end_turn x flat a b c e = outside_stops x c (not_true (outside x true) e)
 pub end_scan : (t : Token) (ts : List Token) → ends_at t.kind ≡ true → scan 0 (t ∷ ts) ≡ false
 end_scan t ts e = end_turn t.kind (turn_of t.kind) (scan 1 ts) (scan 0 ts) (scan 0 ts) e
 
-pub or_split : {A : Type 0} (b c : Bool) → (b || c) ≡ true → (b ≡ true → A) → (c ≡ true → A) → A
-or_split true c h l r = l refl
-or_split false c h l r = r h
-
 -- a token that begins the form is one of its first words
 ends_any : (ws : List Kind) (x : Kind) → any_accepts ws x ≡ true → every ends_at ws ≡ true → ends_at x ≡ true
 ends_any [] x h e = cc
@@ -306,10 +302,6 @@ next_marks (more n ns) [] c room name x text fit lacks after h = absurd fit
 next_marks (more n ns) (p ∷ ps) c room name x text fit lacks after h =
     subst MarkedText (sym (append_assoc (spell n) (spell_all ns) text))
     (colon_part n p ps c room name (front (spell_all ns) x) (spell_all ns ++ text) fit.0 lacks (λ i j. next_marks ns ps c room name x text fit.1 i after j) (ap first_kind (sym (append_assoc (spell n) (spell_all ns) text)) ∙ h))
-
-pub unless : (a b : Bool) → (not a || b) ≡ true → a ≡ true → b ≡ true
-unless true b h e = h
-unless false b h e = cc
 
 -- a part is tidy before a text: what follows it, and of a repetition what begins its trees
 pub record Tidy (room : ℕ) (name : Content) (p : Part) (text : List Token) : Type 0 where

@@ -14,13 +14,13 @@ use Rattle.surface_grammar.specs.Forms.{rules_of}
 use Rattle.surface_grammar.specs.Fronts.{first_kind}
 use Rattle.surface_grammar.specs.Table.{body_of}
 use Rattle.surface_grammar.specs.Trees.{Node, branch, leaf, several, absent, present, Nodes, spell, spell_all, front, begins, IsIn, Fits, FitsAll}
-use Rattle.grammar_engine.proofs.Context.{headed, leafed}
-use Rattle.grammar_engine.proofs.Leading.{node_led}
-use Rattle.grammar_engine.proofs.Pieces.{Pieces, Step, gather}
-use Rattle.grammar_engine.proofs.Ranks.{every, every_in}
-use Rattle.grammar_engine.proofs.Scanned.{accepted}
-use Rattle.grammar_engine.proofs.Skimmed.{exact}
-use Rattle.grammar_engine.proofs.EveryForm.{of_each}
+use Rattle.grammar_engine.proofs.Fronts.Context.{headed, leafed}
+use Rattle.grammar_engine.proofs.Trees.Leading.{node_led}
+use Rattle.grammar_engine.proofs.Trees.Pieces.{Pieces, Step, gather}
+use Rattle.grammar_engine.proofs.Fronts.Scanned.{accepted}
+use Rattle.grammar_engine.proofs.Fronts.Skimmed.{exact}
+use Rattle.surface_grammar.proofs.Every.{of_each}
+use Rattle.grammar_engine.proofs.Bools.{every, every_in, unless}
 
 abbrev is_list_front : Form → Bool
 is_list_front f.Exp = true
@@ -98,10 +98,6 @@ list_pieces (Word w ∷ ps) l (t, us, is, ok, more) h rest =
 list_pieces (One g ∷ ps) l (ts, us, is, q, more) h rest = ap (λ z. lists (z ++ rest)) is ∙ ap lists (append_assoc ts us rest) ∙ q h (us ++ rest)
 list_pieces (Many g ∷ ps) l p h rest = cc
 list_pieces (Maybe g ∷ ps) l p h rest = cc
-
-unless : (a b : Bool) → (not a || b) ≡ true → a ≡ true → b ≡ true
-unless true b h e = h
-unless false b h e = cc
 
 list_step : Step Listed
 list_step g q ts i p = λ e. list_pieces (body_of q) ts p (unless (is_list_front g) (list_fronts (body_of q)) (every_in (is_listed g) (rules_of g) q (listed g) i) e)

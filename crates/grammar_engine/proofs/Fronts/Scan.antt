@@ -10,8 +10,8 @@ use Rattle.surface_grammar.specs.declared.part.Part.TheVariants.{Word, One, Many
 use Rattle.surface_grammar.specs.declared.rule.Rule.{Rule}
 use Rattle.surface_grammar.specs.Forms.{rules_of}
 use Rattle.surface_grammar.specs.Table.{body_of}
-use Rattle.grammar_engine.proofs.Ranks.{every}
-use Rattle.grammar_engine.proofs.EveryForm.{of_each}
+use Rattle.surface_grammar.proofs.Every.{of_each}
+use Rattle.grammar_engine.proofs.Bools.{every}
 
 pub data Turn : Type 0 where
   up : Turn

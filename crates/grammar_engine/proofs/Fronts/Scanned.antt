@@ -13,10 +13,10 @@ use Rattle.surface_grammar.specs.Forms.{rules_of}
 use Rattle.surface_grammar.specs.Table.{body_of}
 use Rattle.surface_grammar.specs.Trees.{Node, Nodes, spell, spell_all, Fits, FitsAll}
 use Rattle.surface_grammar.specs.Words.{kind_code, accept, is_upper_word}
-use Rattle.grammar_engine.proofs.Calm.{not_true, same_code, eq_true}
-use Rattle.grammar_engine.proofs.Pieces.{Run, nil, cons, Pieces, Step, gather, gather_all}
-use Rattle.grammar_engine.proofs.Ranks.{and_left, and_right, every_in}
-use Rattle.grammar_engine.proofs.Scan.{Turn, up, down, flat, turn_of, outside, after_token, scan, net_of, is_low, is_low_close, is_calm_exp, is_calm_close, by_turn, if_flat, goes_to, from, till, passes, low_word, low_one, low_to, calm_word, calm_to, is_scanned, scanned}
+use Rattle.grammar_engine.proofs.Short.Calm.{not_true, same_code, eq_true}
+use Rattle.grammar_engine.proofs.Trees.Pieces.{Run, nil, cons, Pieces, Step, gather, gather_all}
+use Rattle.grammar_engine.proofs.Fronts.Scan.{Turn, up, down, flat, turn_of, outside, after_token, scan, net_of, is_low, is_low_close, is_calm_exp, is_calm_close, by_turn, if_flat, goes_to, from, till, passes, low_word, low_one, low_to, calm_word, calm_to, is_scanned, scanned}
+use Rattle.grammar_engine.proofs.Bools.{and_left, and_right, every_in, unless, or_split}
 
 -- inside brackets, the tokens lead on with so many more or fewer open
 abbrev pub Moves : Turn → List Token → Type 0
@@ -49,10 +49,6 @@ upper_word F k.TypeWord a b c h = a
 upper_word F k.UnitWord a b c h = b
 upper_word F k.NameWord a b c h = c
 upper_word F x a b c h = cc
-
-or_split : {A : Type 0} (b c : Bool) → (b || c) ≡ true → (b ≡ true → A) → (c ≡ true → A) → A
-or_split true c h l r = l refl
-or_split false c h l r = r h
 
 -- what a token that is taken for a word has in common with it
 pub accepted : {A : Type 0} (F : Kind → A) (w x : Kind) → F k.TypeWord ≡ F k.UpperName → F k.UnitWord ≡ F k.UpperName → F k.NameWord ≡ F k.UpperName → accept w x ≡ true → F x ≡ F w
@@ -221,10 +217,6 @@ calm_pieces (Many g ∷ ps) l a (ts, us, is, r, more) h =
     subst (Calmed a) (sym is) (calm_form a (net_of g) (is_calm_exp g) false false (calm_to a ps) ts us h (of_run g ts r).level (of_run g ts r).calm (λ i. no_way i) (λ i. no_way i) (λ i. calm_pieces ps us a more i))
 calm_pieces (Maybe g ∷ ps) l a (ts, us, is, r, more) h =
     subst (Calmed a) (sym is) (calm_form a (net_of g) (is_calm_exp g) false false (calm_to a ps) ts us h (of_option g ts r).level (of_option g ts r).calm (λ i. no_way i) (λ i. no_way i) (λ i. calm_pieces ps us a more i))
-
-unless : (a b : Bool) → (not a || b) ≡ true → a ≡ true → b ≡ true
-unless true b h e = h
-unless false b h e = cc
 
 high_moves : (v : Turn) (ts : List Token) → ((d : ℕ) (rest : List Token) → scan (suc (rise (from v) d)) (ts ++ rest) ≡ scan (suc (rise (till v) d)) rest) → Moves v ts
 high_moves up ts h = h

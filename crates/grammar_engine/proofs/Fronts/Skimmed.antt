@@ -13,9 +13,10 @@ use Rattle.surface_grammar.specs.Forms.{rules_of}
 use Rattle.surface_grammar.specs.Table.{body_of}
 use Rattle.surface_grammar.specs.Trees.{Node, spell, IsIn, Fits}
 use Rattle.surface_grammar.specs.Words.{kind_code, accept, is_upper_word}
-use Rattle.grammar_engine.proofs.Calm.{same_code, eq_true}
-use Rattle.grammar_engine.proofs.Pieces.{Run, nil, cons, Pieces, Step, gather}
-use Rattle.grammar_engine.proofs.Scan.{Turn, up, down, flat, turn_of}
+use Rattle.grammar_engine.proofs.Short.Calm.{same_code, eq_true}
+use Rattle.grammar_engine.proofs.Trees.Pieces.{Run, nil, cons, Pieces, Step, gather}
+use Rattle.grammar_engine.proofs.Fronts.Scan.{Turn, up, down, flat, turn_of}
+use Rattle.grammar_engine.proofs.Bools.{or_split}
 
 -- what may follow the name of a kind
 abbrev pub is_after : Kind → Bool
@@ -67,10 +68,6 @@ KindFacts f.KindAtom ts = ((rest : List Token) → after_kind rest ≡ true → 
 KindFacts f.KindArrow ts = ((rest : List Token) → after_kind (ts ++ rest) ≡ true) × ((d : ℕ) (rest : List Token) → past (suc d) (ts ++ rest) ≡ past (suc d) rest) × ((rest : List Token) → after_kind rest ≡ true → past 0 (ts ++ rest) ≡ true)
 KindFacts f.KindTimes ts = ((rest : List Token) → after_kind (ts ++ rest) ≡ true) × ((d : ℕ) (rest : List Token) → past (suc d) (ts ++ rest) ≡ past (suc d) rest)
 KindFacts _ ts = Unit {0}
-
-or_split : {A : Type 0} (b c : Bool) → (b || c) ≡ true → (b ≡ true → A) → (c ≡ true → A) → A
-or_split true c h l r = l refl
-or_split false c h l r = r h
 
 no_way : {A : Type 0} (a b : Bool) → a ≡ false → (a && b) ≡ true → A
 no_way true b e h = cc

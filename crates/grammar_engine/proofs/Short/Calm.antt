@@ -19,9 +19,9 @@ use Rattle.surface_grammar.specs.Words.{kind_code}
 use Rattle.grammar_engine.specs.declared.want.Want.{Want}
 use Rattle.grammar_engine.specs.Places.{name_at}
 use Rattle.grammar_engine.specs.Rooms.{least_of}
-use Rattle.grammar_engine.proofs.Decided.{kinds, found}
-use Rattle.grammar_engine.proofs.Ranks.{and_left, and_right, every}
-use Rattle.grammar_engine.proofs.Shortest.{pick_of, need_of, start_of, follow_of}
+use Rattle.grammar_engine.proofs.Table.Decided.{kinds, found}
+use Rattle.grammar_engine.proofs.Short.Shortest.{pick_of, need_of, start_of, follow_of}
+use Rattle.grammar_engine.proofs.Bools.{and_left, and_right, every}
 
 -- the rule of the short tree
 abbrev pub picked : Form → Rule

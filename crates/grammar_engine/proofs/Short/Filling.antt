@@ -17,19 +17,15 @@ use Rattle.surface_grammar.specs.Words.{kind_code, accept}
 use Rattle.grammar_engine.specs.declared.want.Want.{Want}
 use Rattle.grammar_engine.specs.Places.{name_at}
 use Rattle.grammar_engine.specs.Rooms.{least_of}
-use Rattle.grammar_engine.proofs.Calm.{picked, nexts, follows, behind, calm, all_follow, fits_room, rooms, tail_rooms, enough_part, enough_all, enough, leading, is_calm_rule, fill_part, fill_all, shortest, fill_wants, parts_of, Roomy, and_both, not_true, at_most, calm_some}
-use Rattle.grammar_engine.proofs.Chosen.{is_in_at}
-use Rattle.grammar_engine.proofs.Grown.{Filled, front_append}
-use Rattle.grammar_engine.proofs.Ranks.{and_left, and_right, every, every_in, less}
-use Rattle.grammar_engine.proofs.Shortest.{pick_of, need_of, start_of}
-use Rattle.grammar_engine.proofs.Sound.{sound, led_by}
+use Rattle.grammar_engine.proofs.Short.Calm.{picked, nexts, follows, behind, calm, all_follow, fits_room, rooms, tail_rooms, enough_part, enough_all, enough, leading, is_calm_rule, fill_part, fill_all, shortest, fill_wants, parts_of, Roomy, and_both, not_true, at_most, calm_some}
+use Rattle.grammar_engine.proofs.Table.Chosen.{is_in_at}
+use Rattle.grammar_engine.proofs.Keeping.Grown.{Filled, front_append}
+use Rattle.grammar_engine.proofs.Short.Shortest.{pick_of, need_of, start_of}
+use Rattle.grammar_engine.proofs.Short.Sound.{sound, led_by}
+use Rattle.grammar_engine.proofs.Bools.{and_left, and_right, less, every, every_in, or_first}
 
 self : (a : ℕ) → (a == a) ≡ true
 self a = search arith
-
-or_first : (a b : Bool) → a ≡ true → (a || b) ≡ true
-or_first true b h = refl
-or_first false b h = cc
 
 pub accept_self : (w : Kind) → accept w w ≡ true
 accept_self w = or_first (kind_code w == kind_code w) _ (self (kind_code w))

@@ -2,9 +2,9 @@
 use Rattle.std.proofs.Common.{◌≡◌, ◌≤◌, refl, true, nat_le}
 use Rattle.surface_grammar.specs.declared.form.Form.{Form}
 use Rattle.surface_grammar.specs.declared.form.Form.TheVariants as f
-use Rattle.grammar_engine.proofs.EveryForm.{of_each}
-use Rattle.grammar_engine.proofs.Calm.{at_most}
-use Rattle.grammar_engine.proofs.Shortest.{need_of}
+use Rattle.surface_grammar.proofs.Every.{of_each}
+use Rattle.grammar_engine.proofs.Short.Calm.{at_most}
+use Rattle.grammar_engine.proofs.Short.Shortest.{need_of}
 
 low : (g : Form) → nat_le (need_of g) 2 ≡ true
 low g = of_each (λ x. nat_le (need_of x) 2) refl g

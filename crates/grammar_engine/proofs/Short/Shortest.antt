@@ -205,28 +205,60 @@ start_of f.SqlProductMore = k.Star
 start_of f.SqlTerm = k.Integer
 start_of f.SqlBraceRest = k.Integer
 
+-- what stands behind several forms
+abbrev pub behind_parameter : List Kind
+behind_parameter = k.EqualSign ∷ k.DoubleArrow ∷ []
+
+abbrev pub behind_con : List Kind
+behind_con = k.RightParenthesis ∷ k.DoubleColon ∷ k.EqualSign ∷ k.RightBracket ∷ k.RightBrace ∷ []
+
+abbrev pub behind_con_sum : List Kind
+behind_con_sum = k.RightParenthesis ∷ k.DoubleColon ∷ k.EqualSign ∷ k.RightBracket ∷ k.RightBrace ∷ k.Tilde ∷ []
+
+abbrev pub behind_con_term : List Kind
+behind_con_term = k.KeywordElse ∷ k.KeywordEnd ∷ k.KeywordIn ∷ k.KeywordOf ∷ k.KeywordThen ∷ k.RightParenthesis ∷ k.DoubleColon ∷ k.Semicolon ∷ k.EqualSign ∷ k.RightBracket ∷ k.RightBrace ∷ k.Tilde ∷ []
+
+abbrev pub behind_pat : List Kind
+behind_pat = k.RightParenthesis ∷ k.LeftArrow ∷ k.DoubleArrow ∷ k.RightBrace ∷ []
+
+abbrev pub behind_pat_atom : List Kind
+behind_pat_atom = k.RightParenthesis ∷ k.LeftArrow ∷ k.EqualSign ∷ k.DoubleArrow ∷ k.RightBrace ∷ []
+
+abbrev pub behind_exp : List Kind
+behind_exp = k.KeywordElse ∷ k.KeywordEnd ∷ k.KeywordIn ∷ k.KeywordOf ∷ k.KeywordThen ∷ k.RightParenthesis ∷ k.RightBracket ∷ k.RightBrace ∷ []
+
+abbrev pub behind_operand : List Kind
+behind_operand = k.KeywordElse ∷ k.KeywordEnd ∷ k.KeywordIn ∷ k.KeywordOf ∷ k.KeywordThen ∷ k.RightParenthesis ∷ k.Semicolon ∷ k.RightBracket ∷ k.RightBrace ∷ []
+
+abbrev pub behind_node : List Kind
+behind_node = k.TagClose ∷ k.XmlClose ∷ []
+
+abbrev pub behind_sql : List Kind
+behind_sql = k.SqlAs ∷ k.SqlWhere ∷ k.RightParenthesis ∷ []
+
+-- the tokens that may follow a tree of the form; the last line is of what stands before an operator, or is one
 abbrev pub follow_of : Form → List Kind
 follow_of f.KindTerm = k.RightParenthesis ∷ k.EqualSign ∷ k.DoubleArrow ∷ k.RightBracket ∷ k.RightBrace ∷ []
 follow_of f.KindArrow = k.RightParenthesis ∷ k.EqualSign ∷ k.DoubleArrow ∷ k.RightBracket ∷ k.RightBrace ∷ []
 follow_of f.KindAtom = k.RightParenthesis ∷ k.Arrow ∷ k.EqualSign ∷ k.DoubleArrow ∷ k.RightBracket ∷ k.RightBrace ∷ []
 follow_of f.KindTimes = k.RightParenthesis ∷ []
-follow_of f.KindMark = k.EqualSign ∷ k.DoubleArrow ∷ []
-follow_of f.Con = k.RightParenthesis ∷ k.DoubleColon ∷ k.EqualSign ∷ k.RightBracket ∷ k.RightBrace ∷ []
-follow_of f.ConForall = k.RightParenthesis ∷ k.DoubleColon ∷ k.EqualSign ∷ k.RightBracket ∷ k.RightBrace ∷ []
-follow_of f.ConArrow = k.RightParenthesis ∷ k.DoubleColon ∷ k.EqualSign ∷ k.RightBracket ∷ k.RightBrace ∷ []
-follow_of f.ConProduct = k.RightParenthesis ∷ k.DoubleColon ∷ k.EqualSign ∷ k.RightBracket ∷ k.RightBrace ∷ []
-follow_of f.ConTimes = k.RightParenthesis ∷ k.DoubleColon ∷ k.EqualSign ∷ k.RightBracket ∷ k.RightBrace ∷ []
-follow_of f.ConSum = k.RightParenthesis ∷ k.DoubleColon ∷ k.EqualSign ∷ k.RightBracket ∷ k.RightBrace ∷ k.Tilde ∷ []
-follow_of f.ConConcat = k.RightParenthesis ∷ k.DoubleColon ∷ k.EqualSign ∷ k.RightBracket ∷ k.RightBrace ∷ k.Tilde ∷ []
-follow_of f.ConApply = k.RightParenthesis ∷ k.DoubleColon ∷ k.EqualSign ∷ k.RightBracket ∷ k.RightBrace ∷ k.Tilde ∷ []
-follow_of f.ConTerm = k.KeywordElse ∷ k.KeywordEnd ∷ k.KeywordIn ∷ k.KeywordOf ∷ k.KeywordThen ∷ k.RightParenthesis ∷ k.DoubleColon ∷ k.Semicolon ∷ k.EqualSign ∷ k.RightBracket ∷ k.RightBrace ∷ k.Tilde ∷ []
+follow_of f.KindMark = behind_parameter
+follow_of f.Con = behind_con
+follow_of f.ConForall = behind_con
+follow_of f.ConArrow = behind_con
+follow_of f.ConProduct = behind_con
+follow_of f.ConTimes = behind_con
+follow_of f.ConSum = behind_con_sum
+follow_of f.ConConcat = behind_con_sum
+follow_of f.ConApply = behind_con_sum
+follow_of f.ConTerm = behind_con_term
 follow_of f.ConDollar = k.Underscore ∷ []
-follow_of f.ConPrimary = k.KeywordElse ∷ k.KeywordEnd ∷ k.KeywordIn ∷ k.KeywordOf ∷ k.KeywordThen ∷ k.RightParenthesis ∷ k.DoubleColon ∷ k.Semicolon ∷ k.EqualSign ∷ k.RightBracket ∷ k.RightBrace ∷ k.Tilde ∷ []
-follow_of f.ConIndex = k.KeywordElse ∷ k.KeywordEnd ∷ k.KeywordIn ∷ k.KeywordOf ∷ k.KeywordThen ∷ k.RightParenthesis ∷ k.DoubleColon ∷ k.Semicolon ∷ k.EqualSign ∷ k.RightBracket ∷ k.RightBrace ∷ k.Tilde ∷ []
-follow_of f.ConAtom = k.KeywordElse ∷ k.KeywordEnd ∷ k.KeywordIn ∷ k.KeywordOf ∷ k.KeywordThen ∷ k.RightParenthesis ∷ k.DoubleColon ∷ k.Semicolon ∷ k.EqualSign ∷ k.RightBracket ∷ k.RightBrace ∷ k.Tilde ∷ []
-follow_of f.HashName = k.KeywordElse ∷ k.KeywordEnd ∷ k.KeywordIn ∷ k.KeywordOf ∷ k.KeywordThen ∷ k.RightParenthesis ∷ k.DoubleColon ∷ k.Semicolon ∷ k.EqualSign ∷ k.RightBracket ∷ k.RightBrace ∷ k.Tilde ∷ []
-follow_of f.ConParenRest = k.KeywordElse ∷ k.KeywordEnd ∷ k.KeywordIn ∷ k.KeywordOf ∷ k.KeywordThen ∷ k.RightParenthesis ∷ k.DoubleColon ∷ k.Semicolon ∷ k.EqualSign ∷ k.RightBracket ∷ k.RightBrace ∷ k.Tilde ∷ []
-follow_of f.ConParenEnd = k.KeywordElse ∷ k.KeywordEnd ∷ k.KeywordIn ∷ k.KeywordOf ∷ k.KeywordThen ∷ k.RightParenthesis ∷ k.DoubleColon ∷ k.Semicolon ∷ k.EqualSign ∷ k.RightBracket ∷ k.RightBrace ∷ k.Tilde ∷ []
+follow_of f.ConPrimary = behind_con_term
+follow_of f.ConIndex = behind_con_term
+follow_of f.ConAtom = behind_con_term
+follow_of f.HashName = behind_con_term
+follow_of f.ConParenRest = behind_con_term
+follow_of f.ConParenEnd = behind_con_term
 follow_of f.ConComma = k.RightParenthesis ∷ []
 follow_of f.ConFieldTypes = k.RightBrace ∷ []
 follow_of f.ConFieldMore = k.RightBrace ∷ []
@@ -237,72 +269,45 @@ follow_of f.FieldName = k.KeywordElse ∷ k.KeywordEnd ∷ k.KeywordIn ∷ k.Key
 follow_of f.Path = k.KeywordElse ∷ k.KeywordEnd ∷ k.KeywordIn ∷ k.KeywordOf ∷ k.KeywordThen ∷ k.SqlSet ∷ k.SqlWhere ∷ k.LeftParenthesis ∷ k.RightParenthesis ∷ k.DoubleColon ∷ k.Semicolon ∷ k.EqualSign ∷ k.RightBracket ∷ k.RightBrace ∷ k.Tilde ∷ []
 follow_of f.UpperDot = k.LowerName ∷ []
 follow_of f.BracketOpen = k.RightBracket ∷ []
-follow_of f.BracketRest = k.RightParenthesis ∷ k.DoubleColon ∷ k.EqualSign ∷ k.RightBracket ∷ k.RightBrace ∷ []
-follow_of f.BracketFields = k.RightParenthesis ∷ k.DoubleColon ∷ k.EqualSign ∷ k.RightBracket ∷ k.RightBrace ∷ []
-follow_of f.BracketNameRest = k.RightParenthesis ∷ k.DoubleColon ∷ k.EqualSign ∷ k.RightBracket ∷ k.RightBrace ∷ []
-follow_of f.BracketUpperRest = k.RightParenthesis ∷ k.DoubleColon ∷ k.EqualSign ∷ k.RightBracket ∷ k.RightBrace ∷ []
-follow_of f.BracketHashRest = k.RightParenthesis ∷ k.DoubleColon ∷ k.EqualSign ∷ k.RightBracket ∷ k.RightBrace ∷ []
+follow_of f.BracketRest = behind_con
+follow_of f.BracketFields = behind_con
+follow_of f.BracketNameRest = behind_con
+follow_of f.BracketUpperRest = behind_con
+follow_of f.BracketHashRest = behind_con
 follow_of f.GuardSides = k.DoubleArrow ∷ []
 follow_of f.NameSides = k.DoubleArrow ∷ []
 follow_of f.PathSides = k.DoubleArrow ∷ []
 follow_of f.IntSides = k.DoubleArrow ∷ []
-follow_of f.Pat = k.RightParenthesis ∷ k.LeftArrow ∷ k.DoubleArrow ∷ k.RightBrace ∷ []
-follow_of f.PatCons = k.RightParenthesis ∷ k.LeftArrow ∷ k.DoubleArrow ∷ k.RightBrace ∷ []
-follow_of f.PatTerm = k.RightParenthesis ∷ k.LeftArrow ∷ k.DoubleArrow ∷ k.RightBrace ∷ []
-follow_of f.PatAtom = k.RightParenthesis ∷ k.LeftArrow ∷ k.EqualSign ∷ k.DoubleArrow ∷ k.RightBrace ∷ []
-follow_of f.UpperPath = k.RightParenthesis ∷ k.LeftArrow ∷ k.EqualSign ∷ k.DoubleArrow ∷ k.RightBrace ∷ []
+follow_of f.Pat = behind_pat
+follow_of f.PatCons = behind_pat
+follow_of f.PatTerm = behind_pat
+follow_of f.PatAtom = behind_pat_atom
+follow_of f.UpperPath = behind_pat_atom
 follow_of f.DotUpper = k.SqlAs ∷ k.SqlWhere ∷ k.RightParenthesis ∷ k.LeftArrow ∷ k.EqualSign ∷ k.DoubleArrow ∷ k.RightBrace ∷ []
-follow_of f.PatParenRest = k.RightParenthesis ∷ k.LeftArrow ∷ k.EqualSign ∷ k.DoubleArrow ∷ k.RightBrace ∷ []
-follow_of f.PatParenEnd = k.RightParenthesis ∷ k.LeftArrow ∷ k.EqualSign ∷ k.DoubleArrow ∷ k.RightBrace ∷ []
+follow_of f.PatParenRest = behind_pat_atom
+follow_of f.PatParenEnd = behind_pat_atom
 follow_of f.PatComma = k.RightParenthesis ∷ []
-follow_of f.PatRecordRest = k.RightParenthesis ∷ k.LeftArrow ∷ k.EqualSign ∷ k.DoubleArrow ∷ k.RightBrace ∷ []
+follow_of f.PatRecordRest = behind_pat_atom
 follow_of f.PatFieldMore = k.RightBrace ∷ []
 follow_of f.PatFieldNext = k.RightBrace ∷ []
-follow_of f.Arg = k.EqualSign ∷ k.DoubleArrow ∷ []
-follow_of f.ArgBracketRest = k.EqualSign ∷ k.DoubleArrow ∷ []
-follow_of f.ArgLowerRest = k.EqualSign ∷ k.DoubleArrow ∷ []
-follow_of f.Exp = k.KeywordElse ∷ k.KeywordEnd ∷ k.KeywordIn ∷ k.KeywordOf ∷ k.KeywordThen ∷ k.RightParenthesis ∷ k.RightBracket ∷ k.RightBrace ∷ []
-follow_of f.ExpBindRest = k.KeywordElse ∷ k.KeywordEnd ∷ k.KeywordIn ∷ k.KeywordOf ∷ k.KeywordThen ∷ k.RightParenthesis ∷ k.RightBracket ∷ k.RightBrace ∷ []
-follow_of f.ExpThen = k.KeywordElse ∷ k.KeywordEnd ∷ k.KeywordIn ∷ k.KeywordOf ∷ k.KeywordThen ∷ k.RightParenthesis ∷ k.RightBracket ∷ k.RightBrace ∷ []
-follow_of f.Term = k.KeywordElse ∷ k.KeywordEnd ∷ k.KeywordIn ∷ k.KeywordOf ∷ k.KeywordThen ∷ k.RightParenthesis ∷ k.RightBracket ∷ k.RightBrace ∷ []
+follow_of f.Arg = behind_parameter
+follow_of f.ArgBracketRest = behind_parameter
+follow_of f.ArgLowerRest = behind_parameter
+follow_of f.Exp = behind_exp
+follow_of f.ExpBindRest = behind_exp
+follow_of f.ExpThen = behind_exp
+follow_of f.Term = behind_exp
 follow_of f.CaseBar = k.UpperName ∷ []
-follow_of f.CaseMore = k.KeywordElse ∷ k.KeywordEnd ∷ k.KeywordIn ∷ k.KeywordOf ∷ k.KeywordThen ∷ k.RightParenthesis ∷ k.RightBracket ∷ k.RightBrace ∷ []
+follow_of f.CaseMore = behind_exp
 follow_of f.Body = k.Semicolon ∷ []
-follow_of f.Or = k.KeywordElse ∷ k.KeywordEnd ∷ k.KeywordIn ∷ k.KeywordOf ∷ k.KeywordThen ∷ k.RightParenthesis ∷ k.Semicolon ∷ k.RightBracket ∷ k.RightBrace ∷ []
-follow_of f.OrMore = k.KeywordElse ∷ k.KeywordEnd ∷ k.KeywordIn ∷ k.KeywordOf ∷ k.KeywordThen ∷ k.RightParenthesis ∷ k.Semicolon ∷ k.RightBracket ∷ k.RightBrace ∷ []
-follow_of f.And = k.KeywordElse ∷ k.KeywordEnd ∷ k.KeywordIn ∷ k.KeywordOf ∷ k.KeywordThen ∷ k.RightParenthesis ∷ k.Semicolon ∷ k.RightBracket ∷ k.RightBrace ∷ []
-follow_of f.AndMore = k.KeywordElse ∷ k.KeywordEnd ∷ k.KeywordIn ∷ k.KeywordOf ∷ k.KeywordThen ∷ k.RightParenthesis ∷ k.Semicolon ∷ k.RightBracket ∷ k.RightBrace ∷ []
-follow_of f.Compare = k.KeywordElse ∷ k.KeywordEnd ∷ k.KeywordIn ∷ k.KeywordOf ∷ k.KeywordThen ∷ k.RightParenthesis ∷ k.Semicolon ∷ k.RightBracket ∷ k.RightBrace ∷ []
-follow_of f.CompareMore = k.KeywordElse ∷ k.KeywordEnd ∷ k.KeywordIn ∷ k.KeywordOf ∷ k.KeywordThen ∷ k.RightParenthesis ∷ k.Semicolon ∷ k.RightBracket ∷ k.RightBrace ∷ []
-follow_of f.Cons = k.KeywordElse ∷ k.KeywordEnd ∷ k.KeywordIn ∷ k.KeywordOf ∷ k.KeywordThen ∷ k.RightParenthesis ∷ k.Semicolon ∷ k.RightBracket ∷ k.RightBrace ∷ []
-follow_of f.ConsMore = k.KeywordElse ∷ k.KeywordEnd ∷ k.KeywordIn ∷ k.KeywordOf ∷ k.KeywordThen ∷ k.RightParenthesis ∷ k.Semicolon ∷ k.RightBracket ∷ k.RightBrace ∷ []
-follow_of f.Join = k.KeywordElse ∷ k.KeywordEnd ∷ k.KeywordIn ∷ k.KeywordOf ∷ k.KeywordThen ∷ k.RightParenthesis ∷ k.Semicolon ∷ k.RightBracket ∷ k.RightBrace ∷ []
-follow_of f.JoinMore = k.KeywordElse ∷ k.KeywordEnd ∷ k.KeywordIn ∷ k.KeywordOf ∷ k.KeywordThen ∷ k.RightParenthesis ∷ k.Semicolon ∷ k.RightBracket ∷ k.RightBrace ∷ []
-follow_of f.Sum = k.KeywordElse ∷ k.KeywordEnd ∷ k.KeywordIn ∷ k.KeywordOf ∷ k.KeywordThen ∷ k.RightParenthesis ∷ k.Semicolon ∷ k.RightBracket ∷ k.RightBrace ∷ []
-follow_of f.SumMore = k.KeywordElse ∷ k.KeywordEnd ∷ k.KeywordIn ∷ k.KeywordOf ∷ k.KeywordThen ∷ k.RightParenthesis ∷ k.Semicolon ∷ k.RightBracket ∷ k.RightBrace ∷ []
-follow_of f.Product = k.KeywordElse ∷ k.KeywordEnd ∷ k.KeywordIn ∷ k.KeywordOf ∷ k.KeywordThen ∷ k.RightParenthesis ∷ k.Semicolon ∷ k.RightBracket ∷ k.RightBrace ∷ []
-follow_of f.ProductMore = k.KeywordElse ∷ k.KeywordEnd ∷ k.KeywordIn ∷ k.KeywordOf ∷ k.KeywordThen ∷ k.RightParenthesis ∷ k.Semicolon ∷ k.RightBracket ∷ k.RightBrace ∷ []
-follow_of f.Sign = k.KeywordElse ∷ k.KeywordEnd ∷ k.KeywordIn ∷ k.KeywordOf ∷ k.KeywordThen ∷ k.RightParenthesis ∷ k.Semicolon ∷ k.RightBracket ∷ k.RightBrace ∷ []
-follow_of f.Cut = k.KeywordElse ∷ k.KeywordEnd ∷ k.KeywordIn ∷ k.KeywordOf ∷ k.KeywordThen ∷ k.RightParenthesis ∷ k.Semicolon ∷ k.RightBracket ∷ k.RightBrace ∷ []
-follow_of f.CutMore = k.KeywordElse ∷ k.KeywordEnd ∷ k.KeywordIn ∷ k.KeywordOf ∷ k.KeywordThen ∷ k.RightParenthesis ∷ k.Semicolon ∷ k.RightBracket ∷ k.RightBrace ∷ []
-follow_of f.Apply = k.KeywordElse ∷ k.KeywordEnd ∷ k.KeywordIn ∷ k.KeywordOf ∷ k.KeywordThen ∷ k.RightParenthesis ∷ k.Semicolon ∷ k.RightBracket ∷ k.RightBrace ∷ []
-follow_of f.Argument = k.KeywordElse ∷ k.KeywordEnd ∷ k.KeywordIn ∷ k.KeywordOf ∷ k.KeywordThen ∷ k.RightParenthesis ∷ k.Semicolon ∷ k.RightBracket ∷ k.RightBrace ∷ []
-follow_of f.ArgumentRest = k.KeywordElse ∷ k.KeywordEnd ∷ k.KeywordIn ∷ k.KeywordOf ∷ k.KeywordThen ∷ k.RightParenthesis ∷ k.Semicolon ∷ k.RightBracket ∷ k.RightBrace ∷ []
-follow_of f.Atom = k.KeywordElse ∷ k.KeywordEnd ∷ k.KeywordIn ∷ k.KeywordOf ∷ k.KeywordThen ∷ k.RightParenthesis ∷ k.Semicolon ∷ k.RightBracket ∷ k.RightBrace ∷ []
-follow_of f.Operand = k.KeywordElse ∷ k.KeywordEnd ∷ k.KeywordIn ∷ k.KeywordOf ∷ k.KeywordThen ∷ k.RightParenthesis ∷ k.Semicolon ∷ k.RightBracket ∷ k.RightBrace ∷ []
-follow_of f.Dot = k.KeywordElse ∷ k.KeywordEnd ∷ k.KeywordIn ∷ k.KeywordOf ∷ k.KeywordThen ∷ k.RightParenthesis ∷ k.Semicolon ∷ k.RightBracket ∷ k.RightBrace ∷ []
-follow_of f.Primary = k.KeywordElse ∷ k.KeywordEnd ∷ k.KeywordIn ∷ k.KeywordOf ∷ k.KeywordThen ∷ k.RightParenthesis ∷ k.Semicolon ∷ k.RightBracket ∷ k.RightBrace ∷ []
-follow_of f.AnyName = k.KeywordElse ∷ k.KeywordEnd ∷ k.KeywordIn ∷ k.KeywordOf ∷ k.KeywordThen ∷ k.RightParenthesis ∷ k.Semicolon ∷ k.RightBracket ∷ k.RightBrace ∷ []
-follow_of f.ParenRest = k.KeywordElse ∷ k.KeywordEnd ∷ k.KeywordIn ∷ k.KeywordOf ∷ k.KeywordThen ∷ k.RightParenthesis ∷ k.Semicolon ∷ k.RightBracket ∷ k.RightBrace ∷ []
-follow_of f.ParenEnd = k.KeywordElse ∷ k.KeywordEnd ∷ k.KeywordIn ∷ k.KeywordOf ∷ k.KeywordThen ∷ k.RightParenthesis ∷ k.Semicolon ∷ k.RightBracket ∷ k.RightBrace ∷ []
 follow_of f.ExpComma = k.RightParenthesis ∷ []
 follow_of f.ExpFields = k.RightBrace ∷ []
 follow_of f.ExpFieldMore = k.RightBrace ∷ []
-follow_of f.Node = k.TagClose ∷ k.XmlClose ∷ []
-follow_of f.NodeBraceRest = k.TagClose ∷ k.XmlClose ∷ []
+follow_of f.Node = behind_node
+follow_of f.NodeBraceRest = behind_node
 follow_of f.Splice = k.RightBrace ∷ []
 follow_of f.TagName = k.TagSelfClose ∷ []
-follow_of f.ElementEnd = k.TagClose ∷ k.XmlClose ∷ []
+follow_of f.ElementEnd = behind_node
 follow_of f.Attribute = k.TagSelfClose ∷ []
 follow_of f.AttributeValue = k.TagSelfClose ∷ []
 follow_of f.Decl = []
@@ -346,16 +351,17 @@ follow_of f.Order = k.RightParenthesis ∷ []
 follow_of f.Direction = k.RightParenthesis ∷ []
 follow_of f.OrderMore = k.RightParenthesis ∷ []
 follow_of f.Count = k.RightParenthesis ∷ []
-follow_of f.SqlOr = k.SqlAs ∷ k.SqlWhere ∷ k.RightParenthesis ∷ []
-follow_of f.SqlOrMore = k.SqlAs ∷ k.SqlWhere ∷ k.RightParenthesis ∷ []
-follow_of f.SqlAnd = k.SqlAs ∷ k.SqlWhere ∷ k.RightParenthesis ∷ []
-follow_of f.SqlAndMore = k.SqlAs ∷ k.SqlWhere ∷ k.RightParenthesis ∷ []
-follow_of f.SqlNot = k.SqlAs ∷ k.SqlWhere ∷ k.RightParenthesis ∷ []
-follow_of f.SqlCompare = k.SqlAs ∷ k.SqlWhere ∷ k.RightParenthesis ∷ []
-follow_of f.SqlCompareMore = k.SqlAs ∷ k.SqlWhere ∷ k.RightParenthesis ∷ []
-follow_of f.SqlSum = k.SqlAs ∷ k.SqlWhere ∷ k.RightParenthesis ∷ []
-follow_of f.SqlSumMore = k.SqlAs ∷ k.SqlWhere ∷ k.RightParenthesis ∷ []
-follow_of f.SqlProduct = k.SqlAs ∷ k.SqlWhere ∷ k.RightParenthesis ∷ []
-follow_of f.SqlProductMore = k.SqlAs ∷ k.SqlWhere ∷ k.RightParenthesis ∷ []
-follow_of f.SqlTerm = k.SqlAs ∷ k.SqlWhere ∷ k.RightParenthesis ∷ []
-follow_of f.SqlBraceRest = k.SqlAs ∷ k.SqlWhere ∷ k.RightParenthesis ∷ []
+follow_of f.SqlOr = behind_sql
+follow_of f.SqlOrMore = behind_sql
+follow_of f.SqlAnd = behind_sql
+follow_of f.SqlAndMore = behind_sql
+follow_of f.SqlNot = behind_sql
+follow_of f.SqlCompare = behind_sql
+follow_of f.SqlCompareMore = behind_sql
+follow_of f.SqlSum = behind_sql
+follow_of f.SqlSumMore = behind_sql
+follow_of f.SqlProduct = behind_sql
+follow_of f.SqlProductMore = behind_sql
+follow_of f.SqlTerm = behind_sql
+follow_of f.SqlBraceRest = behind_sql
+follow_of _ = behind_operand

@@ -11,9 +11,9 @@ use Rattle.surface_grammar.specs.Trees.{Fits}
 use Rattle.grammar_engine.specs.Allowed.{AllowedAt}
 use Rattle.grammar_engine.specs.Faults.{Deeper}
 use Rattle.grammar_engine.specs.Places.{name_at}
-use Rattle.grammar_engine.proofs.Calm.{fill_part, shortest}
-use Rattle.grammar_engine.proofs.Filling.{accept_self, short, short_fits}
-use Rattle.grammar_engine.proofs.Low.{need_low}
+use Rattle.grammar_engine.proofs.Short.Calm.{fill_part, shortest}
+use Rattle.grammar_engine.proofs.Short.Filling.{accept_self, short, short_fits}
+use Rattle.grammar_engine.proofs.Short.Low.{need_low}
 
 pub exists : (room : ℕ) (name : Content) (p : Part) → 2 ≤ room → Fits room name (fill_part (shortest 24 name) name p) p None
 exists room name (Word w) l = (accept_self w, λ i. refl)

@@ -1,5 +1,5 @@
 -- The laws of the table, computed, and what they say.
-use Rattle.std.proofs.Common.{◌≡◌, ◌<◌, ℕ, zero, suc, List, [], ◌∷◌, length, get_or, refl, sym, subst, ◌∙◌, arith, Bool, true, false, not, ◌&&◌, ◌||◌, if◌then◌else◌, Some}
+use Rattle.std.proofs.Common.{◌≡◌, ◌<◌, ℕ, zero, suc, List, [], ◌∷◌, length, get_or, refl, sym, subst, ◌∙◌, arith, Bool, true, false, not, ◌&&◌, ◌||◌, if◌then◌else◌, Some, nat_lt}
 use Rattle.std.proofs.Math.Logic.{inl, inr}
 use Rattle.surface_tree.specs.declared.kind.Kind.{Kind}
 use Rattle.surface_tree.specs.declared.kind.Kind.TheVariants as k
@@ -12,239 +12,35 @@ use Rattle.surface_grammar.specs.Table.{body_of}
 use Rattle.surface_grammar.specs.Trees.{IsIn, begins}
 use Rattle.surface_grammar.specs.Words.{kind_code}
 use Rattle.grammar_engine.specs.Laws.{is_raced_form, starts_none, starts_single, one_token_decides, solid, all_solid, every_kind}
-use Rattle.grammar_engine.proofs.Ranks.{and_left, and_right}
-use Rattle.grammar_engine.proofs.EveryForm.{of_each}
+use Rattle.surface_grammar.proofs.Every.{of_each}
+use Rattle.grammar_engine.proofs.Bools.{and_left, and_right, less}
 
 abbrev pub kinds : List Kind
-kinds = k.KeywordAnd ∷ k.KeywordCase ∷ k.KeywordCon ∷ k.KeywordCookie ∷ k.KeywordDatatype ∷ k.KeywordElse ∷ k.KeywordEnd ∷ k.KeywordFn ∷ k.KeywordFun ∷ k.KeywordFunctor ∷ k.KeywordIf ∷ k.KeywordIn ∷ k.KeywordLet ∷ k.KeywordOf ∷ k.KeywordOpen ∷ k.KeywordRec ∷ k.KeywordSequence ∷ k.KeywordSig ∷ k.KeywordSignature ∷ k.KeywordStruct ∷ k.KeywordStructure ∷ k.KeywordTable ∷ k.KeywordThen ∷ k.KeywordType ∷ k.KeywordVal ∷ k.KeywordWhere ∷ k.SqlAnd ∷ k.SqlAs ∷ k.SqlAsc ∷ k.SqlBy ∷ k.SqlConstraint ∷ k.SqlDelete ∷ k.SqlDesc ∷ k.SqlFalse ∷ k.SqlFrom ∷ k.SqlInsert ∷ k.SqlInto ∷ k.SqlIs ∷ k.SqlJoin ∷ k.SqlKey ∷ k.SqlLeft ∷ k.SqlLimit ∷ k.SqlNot ∷ k.SqlNull ∷ k.SqlOffset ∷ k.SqlOn ∷ k.SqlOr ∷ k.SqlOrder ∷ k.SqlPrimary ∷ k.SqlSelect ∷ k.SqlSet ∷ k.SqlTrue ∷ k.SqlUnique ∷ k.SqlUpdate ∷ k.SqlValues ∷ k.SqlWhere ∷ k.TypeWord ∷ k.UnitWord ∷ k.NameWord ∷ k.Exclamation ∷ k.Hash ∷ k.Dollar ∷ k.Percent ∷ k.DoubleAmpersand ∷ k.LeftParenthesis ∷ k.RightParenthesis ∷ k.Star ∷ k.Plus ∷ k.DoublePlus ∷ k.Comma ∷ k.Dash ∷ k.DoubleDash ∷ k.TripleDash ∷ k.Arrow ∷ k.Dot ∷ k.Ellipsis ∷ k.Slash ∷ k.Colon ∷ k.DoubleColon ∷ k.TripleColon ∷ k.Semicolon ∷ k.LessThan ∷ k.LeftArrow ∷ k.LessOrEqual ∷ k.NotEqual ∷ k.XmlEmpty ∷ k.XmlOpen ∷ k.EqualSign ∷ k.DoubleArrow ∷ k.GreaterThan ∷ k.GreaterOrEqual ∷ k.AtSign ∷ k.DoubleAtSign ∷ k.LeftBracket ∷ k.RightBracket ∷ k.Caret ∷ k.LeftBrace ∷ k.Bar ∷ k.DoubleBar ∷ k.RightBrace ∷ k.Tilde ∷ k.Underscore ∷ k.LowerName ∷ k.UpperName ∷ k.Integer ∷ k.StringLiteral ∷ k.TextRun ∷ k.TagOpen ∷ k.TagClose ∷ k.XmlClose ∷ k.AttributeName ∷ k.TagSelfClose ∷ []
+kinds =
+    k.KeywordAnd ∷ k.KeywordCase ∷ k.KeywordCon ∷ k.KeywordCookie ∷ k.KeywordDatatype ∷ k.KeywordElse ∷
+    k.KeywordEnd ∷ k.KeywordFn ∷ k.KeywordFun ∷ k.KeywordFunctor ∷ k.KeywordIf ∷ k.KeywordIn ∷ k.KeywordLet ∷
+    k.KeywordOf ∷ k.KeywordOpen ∷ k.KeywordRec ∷ k.KeywordSequence ∷ k.KeywordSig ∷ k.KeywordSignature ∷
+    k.KeywordStruct ∷ k.KeywordStructure ∷ k.KeywordTable ∷ k.KeywordThen ∷ k.KeywordType ∷ k.KeywordVal ∷
+    k.KeywordWhere ∷ k.SqlAnd ∷ k.SqlAs ∷ k.SqlAsc ∷ k.SqlBy ∷ k.SqlConstraint ∷ k.SqlDelete ∷ k.SqlDesc ∷
+    k.SqlFalse ∷ k.SqlFrom ∷ k.SqlInsert ∷ k.SqlInto ∷ k.SqlIs ∷ k.SqlJoin ∷ k.SqlKey ∷ k.SqlLeft ∷ k.SqlLimit ∷
+    k.SqlNot ∷ k.SqlNull ∷ k.SqlOffset ∷ k.SqlOn ∷ k.SqlOr ∷ k.SqlOrder ∷ k.SqlPrimary ∷ k.SqlSelect ∷
+    k.SqlSet ∷ k.SqlTrue ∷ k.SqlUnique ∷ k.SqlUpdate ∷ k.SqlValues ∷ k.SqlWhere ∷ k.TypeWord ∷ k.UnitWord ∷
+    k.NameWord ∷ k.Exclamation ∷ k.Hash ∷ k.Dollar ∷ k.Percent ∷ k.DoubleAmpersand ∷ k.LeftParenthesis ∷
+    k.RightParenthesis ∷ k.Star ∷ k.Plus ∷ k.DoublePlus ∷ k.Comma ∷ k.Dash ∷ k.DoubleDash ∷ k.TripleDash ∷
+    k.Arrow ∷ k.Dot ∷ k.Ellipsis ∷ k.Slash ∷ k.Colon ∷ k.DoubleColon ∷ k.TripleColon ∷ k.Semicolon ∷
+    k.LessThan ∷ k.LeftArrow ∷ k.LessOrEqual ∷ k.NotEqual ∷ k.XmlEmpty ∷ k.XmlOpen ∷ k.EqualSign ∷
+    k.DoubleArrow ∷ k.GreaterThan ∷ k.GreaterOrEqual ∷ k.AtSign ∷ k.DoubleAtSign ∷ k.LeftBracket ∷
+    k.RightBracket ∷ k.Caret ∷ k.LeftBrace ∷ k.Bar ∷ k.DoubleBar ∷ k.RightBrace ∷ k.Tilde ∷ k.Underscore ∷
+    k.LowerName ∷ k.UpperName ∷ k.Integer ∷ k.StringLiteral ∷ k.TextRun ∷ k.TagOpen ∷ k.TagClose ∷ k.XmlClose ∷
+    k.AttributeName ∷ k.TagSelfClose ∷ []
 
 pub found : (x : Kind) → get_or kinds (kind_code x) k.KeywordAnd ≡ x
 found k.KeywordAnd = refl
-found k.KeywordCase = refl
-found k.KeywordCon = refl
-found k.KeywordCookie = refl
-found k.KeywordDatatype = refl
-found k.KeywordElse = refl
-found k.KeywordEnd = refl
-found k.KeywordFn = refl
-found k.KeywordFun = refl
-found k.KeywordFunctor = refl
-found k.KeywordIf = refl
-found k.KeywordIn = refl
-found k.KeywordLet = refl
-found k.KeywordOf = refl
-found k.KeywordOpen = refl
-found k.KeywordRec = refl
-found k.KeywordSequence = refl
-found k.KeywordSig = refl
-found k.KeywordSignature = refl
-found k.KeywordStruct = refl
-found k.KeywordStructure = refl
-found k.KeywordTable = refl
-found k.KeywordThen = refl
-found k.KeywordType = refl
-found k.KeywordVal = refl
-found k.KeywordWhere = refl
-found k.SqlAnd = refl
-found k.SqlAs = refl
-found k.SqlAsc = refl
-found k.SqlBy = refl
-found k.SqlConstraint = refl
-found k.SqlDelete = refl
-found k.SqlDesc = refl
-found k.SqlFalse = refl
-found k.SqlFrom = refl
-found k.SqlInsert = refl
-found k.SqlInto = refl
-found k.SqlIs = refl
-found k.SqlJoin = refl
-found k.SqlKey = refl
-found k.SqlLeft = refl
-found k.SqlLimit = refl
-found k.SqlNot = refl
-found k.SqlNull = refl
-found k.SqlOffset = refl
-found k.SqlOn = refl
-found k.SqlOr = refl
-found k.SqlOrder = refl
-found k.SqlPrimary = refl
-found k.SqlSelect = refl
-found k.SqlSet = refl
-found k.SqlTrue = refl
-found k.SqlUnique = refl
-found k.SqlUpdate = refl
-found k.SqlValues = refl
-found k.SqlWhere = refl
-found k.TypeWord = refl
-found k.UnitWord = refl
-found k.NameWord = refl
-found k.Exclamation = refl
-found k.Hash = refl
-found k.Dollar = refl
-found k.Percent = refl
-found k.DoubleAmpersand = refl
-found k.LeftParenthesis = refl
-found k.RightParenthesis = refl
-found k.Star = refl
-found k.Plus = refl
-found k.DoublePlus = refl
-found k.Comma = refl
-found k.Dash = refl
-found k.DoubleDash = refl
-found k.TripleDash = refl
-found k.Arrow = refl
-found k.Dot = refl
-found k.Ellipsis = refl
-found k.Slash = refl
-found k.Colon = refl
-found k.DoubleColon = refl
-found k.TripleColon = refl
-found k.Semicolon = refl
-found k.LessThan = refl
-found k.LeftArrow = refl
-found k.LessOrEqual = refl
-found k.NotEqual = refl
-found k.XmlEmpty = refl
-found k.XmlOpen = refl
-found k.EqualSign = refl
-found k.DoubleArrow = refl
-found k.GreaterThan = refl
-found k.GreaterOrEqual = refl
-found k.AtSign = refl
-found k.DoubleAtSign = refl
-found k.LeftBracket = refl
-found k.RightBracket = refl
-found k.Caret = refl
-found k.LeftBrace = refl
-found k.Bar = refl
-found k.DoubleBar = refl
-found k.RightBrace = refl
-found k.Tilde = refl
-found k.Underscore = refl
-found k.LowerName = refl
-found k.UpperName = refl
-found k.Integer = refl
-found k.StringLiteral = refl
-found k.TextRun = refl
-found k.TagOpen = refl
-found k.TagClose = refl
-found k.XmlClose = refl
-found k.AttributeName = refl
-found k.TagSelfClose = refl
+found _ = refl
 
-code_low : (x : Kind) → kind_code x < 112
-code_low k.KeywordAnd = omega arith
-code_low k.KeywordCase = omega arith
-code_low k.KeywordCon = omega arith
-code_low k.KeywordCookie = omega arith
-code_low k.KeywordDatatype = omega arith
-code_low k.KeywordElse = omega arith
-code_low k.KeywordEnd = omega arith
-code_low k.KeywordFn = omega arith
-code_low k.KeywordFun = omega arith
-code_low k.KeywordFunctor = omega arith
-code_low k.KeywordIf = omega arith
-code_low k.KeywordIn = omega arith
-code_low k.KeywordLet = omega arith
-code_low k.KeywordOf = omega arith
-code_low k.KeywordOpen = omega arith
-code_low k.KeywordRec = omega arith
-code_low k.KeywordSequence = omega arith
-code_low k.KeywordSig = omega arith
-code_low k.KeywordSignature = omega arith
-code_low k.KeywordStruct = omega arith
-code_low k.KeywordStructure = omega arith
-code_low k.KeywordTable = omega arith
-code_low k.KeywordThen = omega arith
-code_low k.KeywordType = omega arith
-code_low k.KeywordVal = omega arith
-code_low k.KeywordWhere = omega arith
-code_low k.SqlAnd = omega arith
-code_low k.SqlAs = omega arith
-code_low k.SqlAsc = omega arith
-code_low k.SqlBy = omega arith
-code_low k.SqlConstraint = omega arith
-code_low k.SqlDelete = omega arith
-code_low k.SqlDesc = omega arith
-code_low k.SqlFalse = omega arith
-code_low k.SqlFrom = omega arith
-code_low k.SqlInsert = omega arith
-code_low k.SqlInto = omega arith
-code_low k.SqlIs = omega arith
-code_low k.SqlJoin = omega arith
-code_low k.SqlKey = omega arith
-code_low k.SqlLeft = omega arith
-code_low k.SqlLimit = omega arith
-code_low k.SqlNot = omega arith
-code_low k.SqlNull = omega arith
-code_low k.SqlOffset = omega arith
-code_low k.SqlOn = omega arith
-code_low k.SqlOr = omega arith
-code_low k.SqlOrder = omega arith
-code_low k.SqlPrimary = omega arith
-code_low k.SqlSelect = omega arith
-code_low k.SqlSet = omega arith
-code_low k.SqlTrue = omega arith
-code_low k.SqlUnique = omega arith
-code_low k.SqlUpdate = omega arith
-code_low k.SqlValues = omega arith
-code_low k.SqlWhere = omega arith
-code_low k.TypeWord = omega arith
-code_low k.UnitWord = omega arith
-code_low k.NameWord = omega arith
-code_low k.Exclamation = omega arith
-code_low k.Hash = omega arith
-code_low k.Dollar = omega arith
-code_low k.Percent = omega arith
-code_low k.DoubleAmpersand = omega arith
-code_low k.LeftParenthesis = omega arith
-code_low k.RightParenthesis = omega arith
-code_low k.Star = omega arith
-code_low k.Plus = omega arith
-code_low k.DoublePlus = omega arith
-code_low k.Comma = omega arith
-code_low k.Dash = omega arith
-code_low k.DoubleDash = omega arith
-code_low k.TripleDash = omega arith
-code_low k.Arrow = omega arith
-code_low k.Dot = omega arith
-code_low k.Ellipsis = omega arith
-code_low k.Slash = omega arith
-code_low k.Colon = omega arith
-code_low k.DoubleColon = omega arith
-code_low k.TripleColon = omega arith
-code_low k.Semicolon = omega arith
-code_low k.LessThan = omega arith
-code_low k.LeftArrow = omega arith
-code_low k.LessOrEqual = omega arith
-code_low k.NotEqual = omega arith
-code_low k.XmlEmpty = omega arith
-code_low k.XmlOpen = omega arith
-code_low k.EqualSign = omega arith
-code_low k.DoubleArrow = omega arith
-code_low k.GreaterThan = omega arith
-code_low k.GreaterOrEqual = omega arith
-code_low k.AtSign = omega arith
-code_low k.DoubleAtSign = omega arith
-code_low k.LeftBracket = omega arith
-code_low k.RightBracket = omega arith
-code_low k.Caret = omega arith
-code_low k.LeftBrace = omega arith
-code_low k.Bar = omega arith
-code_low k.DoubleBar = omega arith
-code_low k.RightBrace = omega arith
-code_low k.Tilde = omega arith
-code_low k.Underscore = omega arith
-code_low k.LowerName = omega arith
-code_low k.UpperName = omega arith
-code_low k.Integer = omega arith
-code_low k.StringLiteral = omega arith
-code_low k.TextRun = omega arith
-code_low k.TagOpen = omega arith
-code_low k.TagClose = omega arith
-code_low k.XmlClose = omega arith
-code_low k.AttributeName = omega arith
-code_low k.TagSelfClose = omega arith
+low : (x : Kind) → nat_lt (kind_code x) (length kinds) ≡ true
+low k.KeywordAnd = refl
+low _ = refl
 
 every_at : (p : Kind → Bool) (xs : List Kind) (i : ℕ) (d : Kind) → every_kind p xs ≡ true → i < length xs → p (get_or xs i d) ≡ true
 every_at p [] i d h lt = absurd (omega arith)
@@ -259,7 +55,7 @@ all_solid_of : (g : Form) → all_solid (rules_of g) ≡ true
 all_solid_of g = of_each (λ (g : Form). all_solid (rules_of g)) refl g
 
 pub decides : (g : Form) (x : Kind) → one_token_decides g x ≡ true
-decides g x = subst (λ y. one_token_decides g y ≡ true) (found x) (every_at (one_token_decides g) kinds (kind_code x) k.KeywordAnd (decided g) (code_low x))
+decides g x = subst (λ y. one_token_decides g y ≡ true) (found x) (every_at (one_token_decides g) kinds (kind_code x) k.KeywordAnd (decided g) (less (kind_code x) (length kinds) (low x)))
 
 solid_in : (qs : List Rule) (q : Rule) → all_solid qs ≡ true → IsIn q qs → solid (body_of q) ≡ true
 solid_in [] q h i = absurd i

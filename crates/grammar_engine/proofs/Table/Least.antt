@@ -11,9 +11,9 @@ use Rattle.surface_grammar.specs.Forms.{rules_of}
 use Rattle.surface_grammar.specs.Table.{body_of}
 use Rattle.surface_grammar.specs.Trees.{Node, leaf, branch, several, absent, present, Nodes, none, more, spell_all, front, IsIn, depth_of, Fits, FitsAll}
 use Rattle.grammar_engine.specs.Rooms.{least_of}
-use Rattle.grammar_engine.proofs.Calm.{at_most}
-use Rattle.grammar_engine.proofs.Ranks.{and_left, and_right, every, every_in}
-use Rattle.grammar_engine.proofs.EveryForm.{of_each}
+use Rattle.grammar_engine.proofs.Short.Calm.{at_most}
+use Rattle.surface_grammar.proofs.Every.{of_each}
+use Rattle.grammar_engine.proofs.Bools.{and_left, and_right, every, every_in}
 
 -- how many levels every tree of the form has, as far as the rules below need it
 abbrev pub floor_of : Form → ℕ

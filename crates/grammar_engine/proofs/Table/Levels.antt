@@ -12,9 +12,9 @@ use Rattle.surface_grammar.specs.Forms.{rules_of}
 use Rattle.surface_grammar.specs.Sides.{is_element, is_tag}
 use Rattle.surface_grammar.specs.Table.{body_of}
 use Rattle.surface_grammar.specs.Trees.{Node, leaf, branch, several, absent, present, Nodes, none, more, spell_all, front, IsIn, Fits, FitsAll, FitsEach}
-use Rattle.grammar_engine.proofs.Calm.{not_true, at_most, and_both}
-use Rattle.grammar_engine.proofs.Ranks.{and_left, and_right, every, every_in}
-use Rattle.grammar_engine.proofs.EveryForm.{of_each}
+use Rattle.grammar_engine.proofs.Short.Calm.{not_true, at_most, and_both}
+use Rattle.surface_grammar.proofs.Every.{of_each}
+use Rattle.grammar_engine.proofs.Bools.{and_left, and_right, every, every_in, no_tag}
 
 abbrev pub level_of : Form → ℕ
 level_of f.KindTerm = 0
@@ -128,10 +128,6 @@ no_element g q i l = not_true (is_element q) (low_or (level_of g) (not (is_eleme
 
 wider : (a n m : ℕ) → a ≤ n → n ≤ m → nat_le a m ≡ true
 wider a n m b l = search (arith, b, l)
-
-no_tag : {A : Type 0} (b : Bool) → not b ≡ true → b ≡ true → A
-no_tag true k i = cc
-no_tag false k i = cc
 
 raise_part : (n m : ℕ) (p : Part) → n ≤ m → m ≤ 1 → part_keeps n p ≡ true → part_keeps m p ≡ true
 raise_part n m (Word w) l k h = or_second (nat_le 2 m) (not (is_tag w)) (low_or n (not (is_tag w)) (omega (arith, l, k)) h)

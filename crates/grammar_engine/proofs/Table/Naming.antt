@@ -13,8 +13,8 @@ use Rattle.surface_grammar.specs.Sides.{is_element, is_tag}
 use Rattle.surface_grammar.specs.Table.{body_of}
 use Rattle.surface_grammar.specs.Trees.{Node, leaf, branch, several, absent, present, Nodes, none, more, spell_all, front, Fits, FitsAll, FitsEach}
 use Rattle.grammar_engine.specs.Single.{holds_name, names_itself}
-use Rattle.grammar_engine.proofs.Ranks.{and_left, and_right, every, every_in}
-use Rattle.grammar_engine.proofs.EveryForm.{of_each}
+use Rattle.surface_grammar.proofs.Every.{of_each}
+use Rattle.grammar_engine.proofs.Bools.{and_left, and_right, every, every_in, no_tag, clash}
 
 abbrev all_named : List Part → Bool
 all_named [] = true
@@ -27,22 +27,14 @@ is_named g q = holds_name g || (is_element q || all_named (body_of q))
 every_named : (g : Form) → every (is_named g) (rules_of g) ≡ true
 every_named g = of_each (λ (g : Form). every (is_named g) (rules_of g)) refl g
 
-no_tag : {A : Type 0} (b : Bool) → not b ≡ true → b ≡ true → A
-no_tag true k i = cc
-no_tag false k i = cc
-
 either : (h e a : Bool) → (h || (e || a)) ≡ true → not h ≡ true → (e ≡ true) ⊎ (a ≡ true)
 either true e a i n = cc
 either false true a i n = inl refl
 either false false a i n = inr i
 
-not_both : {A : Type 0} (b : Bool) → b ≡ true → b ≡ false → A
-not_both true e i = cc
-not_both false e i = cc
-
 rename_rule : (q : Rule) (ns : Nodes) (g : Form) (room : ℕ) (name other : Content) (x : Option Kind) → (is_element q ≡ true) ⊎ (all_named (body_of q) ≡ true) → (fit : Fits room name (branch q ns) (One g) x)
     → (all_named (body_of q) ≡ true → FitsAll fit.0 other ns (body_of q) x) → Fits room other (branch q ns) (One g) x
-rename_rule q ns g room name other x (inl e) fit renamed = (fit.0, fit.1, record { rule = fit.2.rule; room_left = fit.2.room_left; named = λ i. not_both (is_element q) e i; free = fit.2.free }, fit.3)
+rename_rule q ns g room name other x (inl e) fit renamed = (fit.0, fit.1, record { rule = fit.2.rule; room_left = fit.2.room_left; named = λ i. clash (is_element q) e i; free = fit.2.free }, fit.3)
 rename_rule q ns g room name other x (inr h) fit renamed = (fit.0, other, record { rule = fit.2.rule; room_left = fit.2.room_left; named = λ i. refl; free = fit.2.free }, renamed h)
 
 mutual

@@ -7,8 +7,8 @@ use Rattle.surface_grammar.specs.declared.rule.Rule.{Rule}
 use Rattle.surface_grammar.specs.Forms.{rules_of}
 use Rattle.surface_grammar.specs.Trees.{begins}
 use Rattle.grammar_engine.specs.Laws.{is_raced_form, starts_none, starts_single}
-use Rattle.grammar_engine.proofs.Decided.{decides}
-use Rattle.grammar_engine.proofs.Ranks.{and_left}
+use Rattle.grammar_engine.proofs.Table.Decided.{decides}
+use Rattle.grammar_engine.proofs.Bools.{and_left}
 
 no_rule : (b s : Bool) → (if b then not s else s) ≡ true → s ≡ true → b ≡ false
 no_rule true true h e = cc

@@ -9,40 +9,22 @@ use Rattle.surface_grammar.specs.declared.rule.Rule.{Rule}
 use Rattle.surface_grammar.specs.Forms.{rules_of}
 use Rattle.surface_grammar.specs.Table.{body_of}
 use Rattle.surface_grammar.specs.Trees.{IsIn}
-use Rattle.grammar_engine.proofs.EveryForm.{of_each}
+use Rattle.surface_grammar.proofs.Every.{of_each}
+use Rattle.grammar_engine.proofs.Bools.{and_left, and_right, less, every, every_in}
 
 abbrev pub rank_of : Form → ℕ
 rank_of f.KindTerm = 2
-rank_of f.KindArrow = 1
-rank_of f.KindAtom = 1
-rank_of f.KindTimes = 1
-rank_of f.KindMark = 1
 rank_of f.Con = 10
-rank_of f.ConForall = 1
-rank_of f.ConArrow = 1
 rank_of f.ConProduct = 9
-rank_of f.ConTimes = 1
 rank_of f.ConSum = 8
-rank_of f.ConConcat = 1
 rank_of f.ConApply = 7
 rank_of f.ConTerm = 6
-rank_of f.ConDollar = 1
 rank_of f.ConPrimary = 5
-rank_of f.ConIndex = 1
 rank_of f.ConAtom = 4
-rank_of f.HashName = 1
 rank_of f.ConParenRest = 11
-rank_of f.ConParenEnd = 1
-rank_of f.ConComma = 1
 rank_of f.ConFieldTypes = 2
-rank_of f.ConFieldMore = 1
 rank_of f.ConRowFields = 2
-rank_of f.ConFieldValue = 1
-rank_of f.ConRowMore = 1
-rank_of f.FieldName = 1
 rank_of f.Path = 3
-rank_of f.UpperDot = 1
-rank_of f.BracketOpen = 1
 rank_of f.BracketRest = 10
 rank_of f.BracketFields = 3
 rank_of f.BracketNameRest = 9
@@ -50,121 +32,51 @@ rank_of f.BracketUpperRest = 4
 rank_of f.BracketHashRest = 2
 rank_of f.GuardSides = 9
 rank_of f.NameSides = 8
-rank_of f.PathSides = 1
-rank_of f.IntSides = 1
 rank_of f.Pat = 4
-rank_of f.PatCons = 1
 rank_of f.PatTerm = 3
 rank_of f.PatAtom = 2
-rank_of f.UpperPath = 1
-rank_of f.DotUpper = 1
 rank_of f.PatParenRest = 5
-rank_of f.PatParenEnd = 1
-rank_of f.PatComma = 1
 rank_of f.PatRecordRest = 2
-rank_of f.PatFieldMore = 1
 rank_of f.PatFieldNext = 2
 rank_of f.Arg = 3
 rank_of f.ArgBracketRest = 9
 rank_of f.ArgLowerRest = 8
 rank_of f.Exp = 15
-rank_of f.ExpBindRest = 1
-rank_of f.ExpThen = 1
 rank_of f.Term = 14
-rank_of f.CaseBar = 1
-rank_of f.CaseMore = 1
 rank_of f.Body = 14
 rank_of f.Or = 13
-rank_of f.OrMore = 1
 rank_of f.And = 12
-rank_of f.AndMore = 1
 rank_of f.Compare = 11
-rank_of f.CompareMore = 1
 rank_of f.Cons = 10
-rank_of f.ConsMore = 1
 rank_of f.Join = 9
-rank_of f.JoinMore = 1
 rank_of f.Sum = 8
-rank_of f.SumMore = 1
 rank_of f.Product = 7
-rank_of f.ProductMore = 1
 rank_of f.Sign = 6
 rank_of f.Cut = 5
-rank_of f.CutMore = 1
 rank_of f.Apply = 4
 rank_of f.Argument = 3
 rank_of f.ArgumentRest = 11
 rank_of f.Atom = 3
 rank_of f.Operand = 2
-rank_of f.Dot = 1
-rank_of f.Primary = 1
-rank_of f.AnyName = 1
 rank_of f.ParenRest = 16
-rank_of f.ParenEnd = 1
-rank_of f.ExpComma = 1
 rank_of f.ExpFields = 2
-rank_of f.ExpFieldMore = 1
-rank_of f.Node = 1
 rank_of f.NodeBraceRest = 16
-rank_of f.Splice = 1
-rank_of f.TagName = 1
-rank_of f.ElementEnd = 1
-rank_of f.Attribute = 1
-rank_of f.AttributeValue = 1
-rank_of f.Decl = 1
-rank_of f.LetDecl = 1
-rank_of f.ValRest = 1
-rank_of f.RecMore = 1
-rank_of f.FunMore = 1
-rank_of f.TypeMark = 1
-rank_of f.Parameter = 1
-rank_of f.Constructor = 1
-rank_of f.ConstructorOf = 1
-rank_of f.ConstructorMore = 1
-rank_of f.KeyMark = 1
 rank_of f.KeyColumns = 2
-rank_of f.ColumnList = 1
-rank_of f.ColumnMore = 1
-rank_of f.InterfaceItem = 1
-rank_of f.Sql = 1
-rank_of f.Where = 1
-rank_of f.OrderBy = 1
-rank_of f.Limit = 1
-rank_of f.Offset = 1
-rank_of f.ValueList = 1
-rank_of f.ValueMore = 1
-rank_of f.Assignment = 1
-rank_of f.AssignmentMore = 1
 rank_of f.Selection = 9
-rank_of f.ItemMore = 1
 rank_of f.Item = 8
 rank_of f.ItemUpperRest = 4
-rank_of f.ItemDot = 1
-rank_of f.ItemBracesRow = 1
 rank_of f.ItemNamed = 3
 rank_of f.Source = 4
-rank_of f.SourceMore = 1
-rank_of f.AsMark = 1
 rank_of f.TableRef = 4
-rank_of f.TableBraces = 1
-rank_of f.TableBracesExp = 1
 rank_of f.Order = 8
-rank_of f.Direction = 1
-rank_of f.OrderMore = 1
-rank_of f.Count = 1
 rank_of f.SqlOr = 7
-rank_of f.SqlOrMore = 1
 rank_of f.SqlAnd = 6
-rank_of f.SqlAndMore = 1
 rank_of f.SqlNot = 5
 rank_of f.SqlCompare = 4
-rank_of f.SqlCompareMore = 1
 rank_of f.SqlSum = 3
-rank_of f.SqlSumMore = 1
 rank_of f.SqlProduct = 2
-rank_of f.SqlProductMore = 1
-rank_of f.SqlTerm = 1
 rank_of f.SqlBraceRest = 16
+rank_of _ = 1
 
 -- how far up what begins the parts stands; parts that may all be empty have no bound
 abbrev pub lead : List Part → ℕ
@@ -173,10 +85,6 @@ lead (Word w ∷ ps) = 0
 lead (One g ∷ ps) = rank_of g
 lead (Many g ∷ ps) = max (rank_of g + 1) (lead ps)
 lead (Maybe g ∷ ps) = max (rank_of g + 1) (lead ps)
-
-abbrev pub every : {A : Type 0} → (A → Bool) → List A → Bool
-every p [] = true
-every p (x ∷ xs) = p x && every p xs
 
 abbrev pub is_ranked : Form → Rule → Bool
 is_ranked g q = nat_lt (lead (body_of q)) (rank_of g) && nat_lt (length (body_of q)) 16
@@ -187,22 +95,6 @@ all_ranked g = of_each (λ (g : Form). every (is_ranked g) (rules_of g)) refl g
 
 low : (g : Form) → nat_lt (rank_of g) 20 ≡ true
 low g = of_each (λ (g : Form). nat_lt (rank_of g) 20) refl g
-
-pub and_left : (a b : Bool) → (a && b) ≡ true → a ≡ true
-and_left true b h = refl
-and_left false b h = cc
-
-pub and_right : (a b : Bool) → (a && b) ≡ true → b ≡ true
-and_right true b h = h
-and_right false b h = cc
-
-pub less : (a b : ℕ) → nat_lt a b ≡ true → a < b
-less a b h = search (arith, h)
-
-pub every_in : (p : Rule → Bool) (qs : List Rule) (q : Rule) → every p qs ≡ true → IsIn q qs → p q ≡ true
-every_in p [] q h i = absurd i
-every_in p (x ∷ qs) q h (inl e) = subst (λ z. p z ≡ true) (sym e) (and_left (p x) (every p qs) h)
-every_in p (x ∷ qs) q h (inr i) = every_in p qs q (and_right (p x) (every p qs) h) i
 
 pub rank_low : (g : Form) → rank_of g < 20
 rank_low g = less (rank_of g) 20 (low g)

@@ -10,8 +10,8 @@ use Rattle.grammar_engine.specs.Allowed.{may_stand_behind}
 use Rattle.grammar_engine.specs.Passing.{Agrees, Counts, Through}
 use Rattle.grammar_engine.specs.Places.{name_at}
 use Rattle.grammar_engine.specs.Single.{names_itself}
-use Rattle.grammar_engine.proofs.Naming.{rename_any}
-use Rattle.grammar_engine.proofs.Roomier.{fits_in}
+use Rattle.grammar_engine.proofs.Table.Naming.{rename_any}
+use Rattle.grammar_engine.proofs.Trees.Roomier.{fits_in}
 
 -- a text that has the tokens before a place, and its next one, has the tokens through it
 through_next : (items after : List Token) (place : ℕ) → place ≤ length items → take 1 after ≡ take 1 (drop place items) → take (suc place) (take place items ++ after) ≡ take (suc place) items

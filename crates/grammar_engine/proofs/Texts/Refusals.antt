@@ -9,7 +9,7 @@ use Rattle.surface_grammar.specs.declared.part.Part.{Part}
 use Rattle.surface_grammar.specs.Refusals.{deepest, Allows, GoesOn, RefusedAt}
 use Rattle.grammar_engine.specs.Exact.{OneRefusal, TreesAreNotRefused}
 use Rattle.grammar_engine.specs.Faults.{first_at, byte_at}
-use Rattle.grammar_engine.proofs.Refusing.{no_text}
+use Rattle.grammar_engine.proofs.Texts.Refusing.{no_text}
 
 next_in : (items after : List Token) (a b : ℕ) → a < b → a < length items → take 1 (drop a (take b items) ++ after) ≡ take 1 (drop a items)
 next_in [] after a b l h = absurd (omega (arith, h))

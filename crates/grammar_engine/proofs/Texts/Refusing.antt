@@ -12,8 +12,8 @@ use Rattle.grammar_engine.specs.declared.stop.Stop.{Stop}
 use Rattle.grammar_engine.specs.declared.stop.Stop.TheVariants.{Refused, Memory}
 use Rattle.grammar_engine.specs.Exact.{IsSource, NoneGoesOn, Reached, StopsText}
 use Rattle.grammar_engine.specs.Passing.{Through, StopsAll, SoleHere, races_of}
-use Rattle.grammar_engine.proofs.Exact.{Within, agrees_through, some_kind, text_goes, whole_through}
-use Rattle.grammar_engine.proofs.Going.{through_less}
+use Rattle.grammar_engine.proofs.Texts.Exact.{Within, agrees_through, some_kind, text_goes, whole_through}
+use Rattle.grammar_engine.proofs.Keeping.Going.{through_less}
 
 races_low : (p : Part) → races_of p ≤ 2
 races_low (One f.KindTerm) = omega arith

@@ -12,7 +12,8 @@ use Rattle.surface_grammar.specs.Sides.{bars_of}
 use Rattle.surface_grammar.specs.Table.{body_of}
 use Rattle.surface_grammar.specs.Trees.{Node, leaf, branch, several, absent, present, Nodes, none, more, spell, spell_all, front, among, any_accepts, begins, Fits, FitsAll}
 use Rattle.grammar_engine.specs.Laws.{solid}
-use Rattle.grammar_engine.proofs.Decided.{rule_solid, starts_begins}
+use Rattle.grammar_engine.proofs.Table.Decided.{rule_solid, starts_begins}
+use Rattle.grammar_engine.proofs.Bools.{or_first}
 
 -- the tokens begin with one that passes
 pub record Led (ok : Kind → Bool) (ts : List Token) : Type 0 where
@@ -20,10 +21,6 @@ pub record Led (ok : Kind → Bool) (ts : List Token) : Type 0 where
   pub rest : List Token
   pub is : ts ≡ token ∷ rest
   pub passes : ok token.kind ≡ true
-
-or_left : (a b : Bool) → a ≡ true → (a || b) ≡ true
-or_left true b h = refl
-or_left false b h = cc
 
 or_right : (a b : Bool) → b ≡ true → (a || b) ≡ true
 or_right true b h = refl
@@ -68,7 +65,7 @@ mutual
       record { token = l.token; rest = l.rest; is = l.is; passes = or_right (begins g (Some l.token.kind)) _ l.passes }
   nodes_led (more (several (more n ms)) ns) (Many g ∷ ps) room name x s f =
       let l = node_led n g room name (front (spell_all ms) (front (spell_all ns) x)) f.0.0 in
-      record { token = l.token; rest = l.rest ++ spell_all ms ++ spell_all ns; is = ap (λ z. z ++ spell_all ms ++ spell_all ns) l.is; passes = or_left _ (leads ps l.token.kind) l.passes }
+      record { token = l.token; rest = l.rest ++ spell_all ms ++ spell_all ns; is = ap (λ z. z ++ spell_all ms ++ spell_all ns) l.is; passes = or_first _ (leads ps l.token.kind) l.passes }
   nodes_led (more (leaf t) ns) (Maybe g ∷ ps) room name x s f = absurd f.0
   nodes_led (more (branch q ms) ns) (Maybe g ∷ ps) room name x s f = absurd f.0
   nodes_led (more (several ms) ns) (Maybe g ∷ ps) room name x s f = absurd f.0
@@ -77,4 +74,4 @@ mutual
       record { token = l.token; rest = l.rest; is = l.is; passes = or_right (begins g (Some l.token.kind)) _ l.passes }
   nodes_led (more (present n) ns) (Maybe g ∷ ps) room name x s f =
       let l = node_led n g room name (front (spell_all ns) x) f.0 in
-      record { token = l.token; rest = l.rest ++ spell_all ns; is = ap (λ z. z ++ spell_all ns) l.is; passes = or_left _ (leads ps l.token.kind) l.passes }
+      record { token = l.token; rest = l.rest ++ spell_all ns; is = ap (λ z. z ++ spell_all ns) l.is; passes = or_first _ (leads ps l.token.kind) l.passes }

@@ -13,6 +13,7 @@ use Rattle.surface_grammar.specs.Forms.{rules_of}
 use Rattle.surface_grammar.specs.Table.{body_of}
 use Rattle.surface_grammar.specs.Trees.{Node, leaf, branch, several, absent, present, Nodes, none, more, spell, spell_all, front, IsIn, Fits, FitsAll, FitsEach}
 use Rattle.surface_grammar.specs.Words.{accept}
+use Rattle.grammar_engine.proofs.Bools.{every}
 
 -- the tokens of a repetition, tree by tree
 pub data Run (Q : Form → List Token → Type 0) (g : Form) : List Token → Type 0 where

@@ -19,18 +19,18 @@ use Rattle.grammar_engine.specs.Laws.{is_raced_form}
 use Rattle.grammar_engine.specs.Single.{is_text_part, OnlyTree}
 use Rattle.surface_grammar.specs.Listings.{Listing, Lists}
 use Rattle.surface_grammar.specs.Refusals.{WholeTree}
-use Rattle.grammar_engine.proofs.TextParts.{many_whole}
 use Rattle.std.proofs.Math.Logic.{◌⊎◌, inl, inr}
-use Rattle.grammar_engine.proofs.ConFronts.{kinds_apart}
-use Rattle.grammar_engine.proofs.Context.{is_exp_tail, is_con_tail, part_ok, tidy, rule_tidy, Ends, Marks, MarkedText, headed, leafed, Tidy, tidy_ends, tidy_marks}
-use Rattle.grammar_engine.proofs.Decided.{rule_solid, one_rule}
-use Rattle.grammar_engine.proofs.Leading.{started, node_led, nodes_led}
-use Rattle.grammar_engine.proofs.ListFronts.{splices_apart}
-use Rattle.grammar_engine.proofs.Ranks.{and_left, and_right}
-use Rattle.grammar_engine.proofs.Scan.{scan}
-use Rattle.grammar_engine.proofs.Scanned.{bindings_apart}
-use Rattle.grammar_engine.proofs.Skimmed.{exact}
-use Rattle.grammar_engine.proofs.Unique.{front_kind, begun_kind, first_same, by_race, is_left_open}
+use Rattle.grammar_engine.proofs.Fronts.ConFronts.{kinds_apart}
+use Rattle.grammar_engine.proofs.Fronts.Context.{is_exp_tail, is_con_tail, part_ok, tidy, rule_tidy, Ends, Marks, MarkedText, headed, leafed, Tidy, tidy_ends, tidy_marks}
+use Rattle.grammar_engine.proofs.Table.Decided.{rule_solid, one_rule}
+use Rattle.grammar_engine.proofs.Trees.Leading.{started, node_led, nodes_led}
+use Rattle.grammar_engine.proofs.Fronts.ListFronts.{splices_apart}
+use Rattle.grammar_engine.proofs.Fronts.Scan.{scan}
+use Rattle.grammar_engine.proofs.Fronts.Scanned.{bindings_apart}
+use Rattle.grammar_engine.proofs.Fronts.Skimmed.{exact}
+use Rattle.grammar_engine.proofs.Trees.Unique.{front_kind, begun_kind, first_same, is_left_open}
+use Rattle.grammar_engine.proofs.Bools.{and_left, and_right, both_open, clash, by_cases}
+use Rattle.grammar_engine.proofs.Trees.TextParts.{part_whole}
 
 pub record Same (n o : Node) (after behind : List Token) : Type 0 where
   pub tree : n ≡ o
@@ -39,9 +39,6 @@ pub record Same (n o : Node) (after behind : List Token) : Type 0 where
 pub record SameAll (ns os : Nodes) (after behind : List Token) : Type 0 where
   pub trees : ns ≡ os
   pub rest : after ≡ behind
-
-never : {A : Type 0} → ⊥ → A
-never e = absurd e
 
 or_first : (b : Bool) → (b || false) ≡ true → b ≡ true
 or_first true h = refl
@@ -59,7 +56,7 @@ bind_clash ns os after behind inner inside own mine fit fit' e quiet =
     let l = node_led b.head f.ExpBindRest inner own (front (spell_all b.tail) (first_kind after)) b.fits in
     let text : spell_all ns ++ after ≡ spell a.head ++ l.token ∷ ((l.rest ++ spell_all b.tail) ++ after) =
     ap (λ z. z ++ after) (a.spelled ∙ ap (λ z. spell a.head ++ z) (b.spelled ∙ ap (λ z. z ++ spell_all b.tail) l.is)) ∙ append_assoc (spell a.head) (l.token ∷ (l.rest ++ spell_all b.tail)) after in
-    never (bindings_apart a.head os inner inside own mine (front (spell_all a.tail) (first_kind after)) (first_kind behind) l.token ((l.rest ++ spell_all b.tail) ++ after) behind a.fits fit' (sym text ∙ e) (arrow l.token.kind l.passes) quiet)
+    absurd (bindings_apart a.head os inner inside own mine (front (spell_all a.tail) (first_kind after)) (first_kind behind) l.token ((l.rest ++ spell_all b.tail) ++ after) behind a.fits fit' (sym text ∙ e) (arrow l.token.kind l.passes) quiet)
 
 -- the rules of the two raced forms are told apart by what follows
 raced_rule : (g : Form) (q p : Rule) (ns os : Nodes) (after behind : List Token) (inner inside : ℕ) (own mine : Content) → is_raced_form g ≡ true → IsIn q (rules_of g) → IsIn p (rules_of g)
@@ -153,7 +150,7 @@ forall_rule q ns room name after behind (inl e) fit is colons m =
     ap (λ z. z ++ after) (a.spelled ∙ ap (λ z. z ++ spell_all a.tail) l.spelled ∙ ap (λ z. l.token ∷ z) inner)
     ∙ ap (λ z. l.token ∷ z) (append_assoc (spell b.head) (w.token ∷ (spell d.head ++ spell_all d.tail)) after ∙ ap (λ z. spell b.head ++ w.token ∷ z) (append_assoc (spell d.head) (spell_all d.tail) after)) in
     let same = tail_same m.colons l.token _ _ (sym m.is ∙ sym is ∙ text) in
-    never (kinds_apart m.node b.head d.head m.room room room m.name name name m.next (front (spell_all b.tail) (first_kind after)) (front (spell_all d.tail) (first_kind after)) m.close w.token m.rest (spell_all d.tail ++ after) m.fits b.fits d.fits m.closes (exact k.Arrow w.token.kind refl w.ok) same)
+    absurd (kinds_apart m.node b.head d.head m.room room room m.name name name m.next (front (spell_all b.tail) (first_kind after)) (front (spell_all d.tail) (first_kind after)) m.close w.token m.rest (spell_all d.tail ++ after) m.fits b.fits d.fits m.closes (exact k.Arrow w.token.kind refl w.ok) same)
   where
     tail_same : (t u : Token) (ts us : List Token) → t ∷ ts ≡ u ∷ us → ts ≡ us
     tail_same t u ts us e = cc
@@ -199,7 +196,7 @@ mutual
   same_node (branch q ns) absent (One g) after behind room space name other f f' e u1 u2 = absurd f'
   same_node (branch q ns) (present o) (One g) after behind room space name other f f' e u1 u2 = absurd f'
   same_node (branch q ns) (branch p os) (One g) after behind room space name other f f' e u1 u2 =
-      let rule : q ≡ p = same_rule g q p ns os after behind f.0 f'.0 room space f.1 f'.1 name other f.2 f'.2 f.3 f'.3 e (λ i. tidy_ends room name g after u1 i) (λ i. tidy_ends space other g behind u2 i) (by_race (is_raced_form g)) in
+      let rule : q ≡ p = same_rule g q p ns os after behind f.0 f'.0 room space f.1 f'.1 name other f.2 f'.2 f.3 f'.3 e (λ i. tidy_ends room name g after u1 i) (λ i. tidy_ends space other g behind u2 i) (by_cases (is_raced_form g)) in
       let fits : FitsAll f'.0 f'.1 os (body_of q) (first_kind behind) = subst (λ z. FitsAll f'.0 f'.1 os (body_of z) (first_kind behind)) (sym rule) f'.3 in
       let inside = same_nodes g ns os (body_of q) after behind f.0 f'.0 f.1 f'.1 f.3 fits e (rule_tidy g q f.2.rule) (λ i. tidy_ends room name g after u1 i) (λ i. tidy_marks room name g after u1 i) (λ i. tidy_ends space other g behind u2 i) (λ i. tidy_marks space other g behind u2 i) in
       record { tree = ap (branch q) inside.trees ∙ ap (λ z. branch z os) rule; rest = inside.rest }
@@ -267,18 +264,6 @@ mutual
       (sym (append_assoc (spell n) (spell_all ns) after) ∙ e ∙ append_assoc (spell o) (spell_all os) behind) (item_tidy g ns room name after f.1 u1) (item_tidy g os space other behind f'.1 u2) in
       let others = same_each ns os g after behind room space name other f.1 f'.1 first.rest u1 u2 in
       record { trees = ap (λ z. more z ns) first.tree ∙ ap (more o) others.trees; rest = others.rest }
-
-both_or : (a b : Bool) → ((a || true) && (b || true)) ≡ true
-both_or true true = refl
-both_or true false = refl
-both_or false true = refl
-both_or false false = refl
-
-pub part_whole : (p : Part) → is_text_part p ≡ true → part_ok true true p [] ≡ true
-part_whole (Word w) h = refl
-part_whole (One g) h = both_or (not (is_exp_tail g)) (not (is_con_tail g))
-part_whole (Many g) h = many_whole g h
-part_whole (Maybe g) h = both_or (not (is_exp_tail g)) (not (is_con_tail g))
 
 -- nothing behind a whole text is tidy
 whole_tidy : (p : Part) (room : ℕ) (name : Content) → is_text_part p ≡ true → Tidy room name p []

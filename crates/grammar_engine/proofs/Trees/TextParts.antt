@@ -1,162 +1,25 @@
--- Repetitions that may be whole texts.
-use Rattle.std.proofs.Common.{◌≡◌, refl, true, []}
+-- Parts that may be whole texts.
+use Rattle.std.proofs.Common.{◌≡◌, refl, true, not, []}
 use Rattle.surface_grammar.specs.declared.form.Form.{Form}
 use Rattle.surface_grammar.specs.declared.form.Form.TheVariants as f
-use Rattle.surface_grammar.specs.declared.part.Part.TheVariants.{Many}
+use Rattle.surface_grammar.specs.declared.part.Part.{Part}
+use Rattle.surface_grammar.specs.declared.part.Part.TheVariants.{Word, One, Many, Maybe}
 use Rattle.grammar_engine.specs.Single.{is_text_part}
-use Rattle.grammar_engine.proofs.Context.{part_ok}
+use Rattle.grammar_engine.proofs.Bools.{both_open}
+use Rattle.grammar_engine.proofs.Fronts.Context.{part_ok, is_exp_tail, is_con_tail}
 
-pub many_whole : (g : Form) → is_text_part (Many g) ≡ true → part_ok true true (Many g) [] ≡ true
-many_whole f.KindTerm h = refl
-many_whole f.KindArrow h = refl
-many_whole f.KindAtom h = refl
-many_whole f.KindTimes h = refl
-many_whole f.KindMark h = refl
-many_whole f.Con h = refl
+-- the last line stands for each other form, and is checked for each
+many_whole : (g : Form) → is_text_part (Many g) ≡ true → part_ok true true (Many g) [] ≡ true
 many_whole f.ConForall h = cc
-many_whole f.ConArrow h = refl
-many_whole f.ConProduct h = refl
-many_whole f.ConTimes h = refl
-many_whole f.ConSum h = refl
-many_whole f.ConConcat h = refl
-many_whole f.ConApply h = refl
-many_whole f.ConTerm h = refl
-many_whole f.ConDollar h = refl
-many_whole f.ConPrimary h = refl
-many_whole f.ConIndex h = refl
-many_whole f.ConAtom h = refl
-many_whole f.HashName h = refl
-many_whole f.ConParenRest h = refl
-many_whole f.ConParenEnd h = refl
-many_whole f.ConComma h = refl
-many_whole f.ConFieldTypes h = refl
-many_whole f.ConFieldMore h = refl
-many_whole f.ConRowFields h = refl
-many_whole f.ConFieldValue h = refl
-many_whole f.ConRowMore h = refl
-many_whole f.FieldName h = refl
-many_whole f.Path h = refl
-many_whole f.UpperDot h = refl
-many_whole f.BracketOpen h = refl
-many_whole f.BracketRest h = refl
-many_whole f.BracketFields h = refl
-many_whole f.BracketNameRest h = refl
-many_whole f.BracketUpperRest h = refl
-many_whole f.BracketHashRest h = refl
-many_whole f.GuardSides h = refl
-many_whole f.NameSides h = refl
-many_whole f.PathSides h = refl
-many_whole f.IntSides h = refl
-many_whole f.Pat h = refl
-many_whole f.PatCons h = refl
-many_whole f.PatTerm h = refl
-many_whole f.PatAtom h = refl
-many_whole f.UpperPath h = refl
-many_whole f.DotUpper h = refl
-many_whole f.PatParenRest h = refl
-many_whole f.PatParenEnd h = refl
-many_whole f.PatComma h = refl
-many_whole f.PatRecordRest h = refl
-many_whole f.PatFieldMore h = refl
-many_whole f.PatFieldNext h = refl
-many_whole f.Arg h = refl
-many_whole f.ArgBracketRest h = refl
-many_whole f.ArgLowerRest h = refl
 many_whole f.Exp h = cc
 many_whole f.ExpBindRest h = cc
-many_whole f.ExpThen h = refl
 many_whole f.Term h = cc
-many_whole f.CaseBar h = refl
-many_whole f.CaseMore h = refl
-many_whole f.Body h = refl
-many_whole f.Or h = refl
-many_whole f.OrMore h = refl
-many_whole f.And h = refl
-many_whole f.AndMore h = refl
-many_whole f.Compare h = refl
-many_whole f.CompareMore h = refl
-many_whole f.Cons h = refl
-many_whole f.ConsMore h = refl
-many_whole f.Join h = refl
-many_whole f.JoinMore h = refl
-many_whole f.Sum h = refl
-many_whole f.SumMore h = refl
-many_whole f.Product h = refl
-many_whole f.ProductMore h = refl
-many_whole f.Sign h = refl
-many_whole f.Cut h = refl
-many_whole f.CutMore h = refl
-many_whole f.Apply h = refl
-many_whole f.Argument h = refl
-many_whole f.ArgumentRest h = refl
-many_whole f.Atom h = refl
-many_whole f.Operand h = refl
-many_whole f.Dot h = refl
-many_whole f.Primary h = refl
-many_whole f.AnyName h = refl
-many_whole f.ParenRest h = refl
-many_whole f.ParenEnd h = refl
-many_whole f.ExpComma h = refl
 many_whole f.ExpFields h = cc
-many_whole f.ExpFieldMore h = refl
-many_whole f.Node h = refl
-many_whole f.NodeBraceRest h = refl
-many_whole f.Splice h = refl
-many_whole f.TagName h = refl
-many_whole f.ElementEnd h = refl
-many_whole f.Attribute h = refl
-many_whole f.AttributeValue h = refl
-many_whole f.Decl h = refl
-many_whole f.LetDecl h = refl
 many_whole f.ValRest h = cc
-many_whole f.RecMore h = refl
-many_whole f.FunMore h = refl
-many_whole f.TypeMark h = refl
-many_whole f.Parameter h = refl
-many_whole f.Constructor h = refl
-many_whole f.ConstructorOf h = refl
-many_whole f.ConstructorMore h = refl
-many_whole f.KeyMark h = refl
-many_whole f.KeyColumns h = refl
-many_whole f.ColumnList h = refl
-many_whole f.ColumnMore h = refl
-many_whole f.InterfaceItem h = refl
-many_whole f.Sql h = refl
-many_whole f.Where h = refl
-many_whole f.OrderBy h = refl
-many_whole f.Limit h = refl
-many_whole f.Offset h = refl
-many_whole f.ValueList h = refl
-many_whole f.ValueMore h = refl
-many_whole f.Assignment h = refl
-many_whole f.AssignmentMore h = refl
-many_whole f.Selection h = refl
-many_whole f.ItemMore h = refl
-many_whole f.Item h = refl
-many_whole f.ItemUpperRest h = refl
-many_whole f.ItemDot h = refl
-many_whole f.ItemBracesRow h = refl
-many_whole f.ItemNamed h = refl
-many_whole f.Source h = refl
-many_whole f.SourceMore h = refl
-many_whole f.AsMark h = refl
-many_whole f.TableRef h = refl
-many_whole f.TableBraces h = refl
-many_whole f.TableBracesExp h = refl
-many_whole f.Order h = refl
-many_whole f.Direction h = refl
-many_whole f.OrderMore h = refl
-many_whole f.Count h = refl
-many_whole f.SqlOr h = refl
-many_whole f.SqlOrMore h = refl
-many_whole f.SqlAnd h = refl
-many_whole f.SqlAndMore h = refl
-many_whole f.SqlNot h = refl
-many_whole f.SqlCompare h = refl
-many_whole f.SqlCompareMore h = refl
-many_whole f.SqlSum h = refl
-many_whole f.SqlSumMore h = refl
-many_whole f.SqlProduct h = refl
-many_whole f.SqlProductMore h = refl
-many_whole f.SqlTerm h = refl
-many_whole f.SqlBraceRest h = refl
+many_whole _ h = refl
+
+pub part_whole : (p : Part) → is_text_part p ≡ true → part_ok true true p [] ≡ true
+part_whole (Word w) h = refl
+part_whole (One g) h = both_open (not (is_exp_tail g)) (not (is_con_tail g))
+part_whole (Many g) h = many_whole g h
+part_whole (Maybe g) h = both_open (not (is_exp_tail g)) (not (is_con_tail g))

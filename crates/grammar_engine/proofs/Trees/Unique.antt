@@ -18,8 +18,9 @@ use Rattle.surface_grammar.specs.Trees.{Node, leaf, branch, several, absent, pre
 use Rattle.grammar_engine.specs.Choices.{is_raced, choices, choices_all, choices_each}
 use Rattle.grammar_engine.specs.Laws.{is_raced_form}
 use Rattle.std.proofs.Math.Logic.{◌⊎◌, inl, inr}
-use Rattle.grammar_engine.proofs.Decided.{rule_solid, one_rule}
-use Rattle.grammar_engine.proofs.Leading.{Led, started, node_led, nodes_led}
+use Rattle.grammar_engine.proofs.Table.Decided.{rule_solid, one_rule}
+use Rattle.grammar_engine.proofs.Trees.Leading.{Led, started, node_led, nodes_led}
+use Rattle.grammar_engine.proofs.Bools.{by_cases}
 
 pub record Same (n o : Node) (after behind : List Token) (c d : List Mark) : Type 0 where
   pub tree : n ≡ o
@@ -80,10 +81,6 @@ raced_rules g q h i = cc
 pub first_same : (t u : Token) (a b : List Token) (ts us after behind : List Token) → ts ≡ t ∷ a → us ≡ u ∷ b → ts ++ after ≡ us ++ behind → t ≡ u
 first_same t u a b ts us after behind e e' h = let same : t ∷ (a ++ after) ≡ u ∷ (b ++ behind) = ap (λ z. z ++ after) (sym e) ∙ h ∙ ap (λ z. z ++ behind) e' in cc
 
-pub by_race : (b : Bool) → (b ≡ true) ⊎ (b ≡ false)
-by_race true = inl refl
-by_race false = inr refl
-
 -- two trees of a form at the front of one list of tokens are of one rule
 same_rule : (g : Form) (q p : Rule) (ns os : Nodes) (after behind : List Token) (c d : List Mark) (inner inside room space : ℕ) (own mine name other : Content)
     → Built room inner name own q g (front (spell_all ns) (first_kind after)) → Built space inside other mine p g (front (spell_all os) (first_kind behind))
@@ -121,7 +118,7 @@ mutual
   same_node (branch q ns) absent (One g) after behind c d room space name other f f' e ec = absurd f'
   same_node (branch q ns) (present o) (One g) after behind c d room space name other f f' e ec = absurd f'
   same_node (branch q ns) (branch p os) (One g) after behind c d room space name other f f' e ec =
-      let rule : q ≡ p = same_rule g q p ns os after behind c d f.0 f'.0 room space f.1 f'.1 name other f.2 f'.2 f.3 f'.3 e ec (by_race (is_raced_form g)) in
+      let rule : q ≡ p = same_rule g q p ns os after behind c d f.0 f'.0 room space f.1 f'.1 name other f.2 f'.2 f.3 f'.3 e ec (by_cases (is_raced_form g)) in
       let fits : FitsAll f'.0 f'.1 os (body_of q) (first_kind behind) = subst (λ z. FitsAll f'.0 f'.1 os (body_of z) (first_kind behind)) (sym rule) f'.3 in
       let chosen : choices (branch q ns) (One g) (first_kind after) ++ c ≡ choices (branch q os) (One g) (first_kind behind) ++ d = subst (λ z. choices (branch q ns) (One g) (first_kind after) ++ c ≡ choices (branch z os) (One g) (first_kind behind) ++ d) (sym rule) ec in
       let inside = same_nodes ns os (body_of q) after behind c d f.0 f'.0 f.1 f'.1 f.3 fits e (cancel (is_raced q) (m.Rule q) _ _ c d chosen) in

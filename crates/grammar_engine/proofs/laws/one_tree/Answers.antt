@@ -1,5 +1,5 @@
 use Rattle.std.proofs.Common.{[], ◌++◌, ap}
-use Rattle.grammar_engine.proofs.Unique.{same_node}
+use Rattle.grammar_engine.proofs.Trees.Unique.{same_node}
 use Rattle.grammar_engine.proofs.laws.one_tree.Goals as goal
 
 pub returns : goal.returns

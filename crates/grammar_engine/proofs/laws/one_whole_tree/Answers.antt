@@ -1,4 +1,4 @@
-use Rattle.grammar_engine.proofs.Sole.{one_whole}
+use Rattle.grammar_engine.proofs.Trees.Sole.{one_whole}
 use Rattle.grammar_engine.proofs.laws.one_whole_tree.Goals as goal
 
 pub returns : goal.returns

@@ -1,8 +1,8 @@
 use Rattle.std.proofs.Common.{◌∙◌, sym, arith}
 use Rattle.surface_grammar.specs.declared.kinds.KindRule.TheVariants as kind
 use Rattle.surface_grammar.specs.declared.rule.Rule.TheVariants as r
-use Rattle.grammar_engine.proofs.Chosen.{chosen_at}
-use Rattle.grammar_engine.proofs.NoneBegins.{none_begins}
+use Rattle.grammar_engine.proofs.Table.Chosen.{chosen_at}
+use Rattle.grammar_engine.proofs.Table.NoneBegins.{none_begins}
 use Rattle.grammar_engine.proofs.machine.choose.Goals as goal
 
 pub returns-then-starts-clause-chosen : goal.returns-then-starts-clause-chosen

@@ -1,8 +1,8 @@
 use Rattle.std.proofs.Common.{◌≡◌, ◌<◌, ◌+◌, ◌-◌, suc, arith, drop, max, refl, rules, subst, sym}
 use Rattle.std.proofs.lemmas.Result.{IfErr-weaker, IfOk-weaker, err_from_is_err_and}
 use Rattle.std.proofs.Math.Logic.{inr}
-use Rattle.grammar_engine.proofs.Grown.{Grows}
-use Rattle.grammar_engine.proofs.Grows.{begun_grows, begun_read, grows_meets, read_meets, reads_at_end}
+use Rattle.grammar_engine.proofs.Keeping.Grown.{Grows}
+use Rattle.grammar_engine.proofs.Keeping.Grows.{begun_grows, begun_read, grows_meets, read_meets, reads_at_end}
 use Rattle.surface_tree.specs.declared.kind.Kind.TheVariants as k
 use Rattle.surface_grammar.specs.declared.form.Form.TheVariants as f
 use Rattle.surface_grammar.specs.declared.part.Part.TheVariants.{One}
@@ -11,11 +11,11 @@ use Rattle.grammar_engine.specs.Allowed.{StopsAllowed}
 use Rattle.grammar_engine.specs.Blocks.{Cramped}
 use Rattle.grammar_engine.specs.Passing.{StopsAll, WayOpen}
 use Rattle.grammar_engine.specs.Stuck.{MeetsBlocked}
-use Rattle.grammar_engine.proofs.Allowing.{Ready}
-use Rattle.grammar_engine.proofs.Going.{Going, going_start, going_meets, going_stops, going_ends}
-use Rattle.grammar_engine.proofs.Readies.{begun_ready, ready_meets, ends_allowed, refusal_allowed, stuck_at}
-use Rattle.grammar_engine.proofs.Smaller.{left_over, smaller}
-use Rattle.grammar_engine.proofs.Ways.{cramped_blocked, next_place, room_same, shut_moved, shut_behind, shut_refused, shut_unbegun}
+use Rattle.grammar_engine.proofs.Keeping.Allowing.{Ready}
+use Rattle.grammar_engine.proofs.Keeping.Going.{Going, going_start, going_meets, going_stops, going_ends}
+use Rattle.grammar_engine.proofs.Keeping.Readies.{begun_ready, ready_meets, ends_allowed, refusal_allowed, stuck_at}
+use Rattle.grammar_engine.proofs.Keeping.Smaller.{left_over, smaller}
+use Rattle.grammar_engine.proofs.Keeping.Ways.{cramped_blocked, next_place, room_same, shut_moved, shut_behind, shut_refused, shut_unbegun}
 use Rattle.grammar_engine.proofs.read.+read.Goals as goal
 
 pub read_part-loop-want-init : goal.read_part-loop-want-init

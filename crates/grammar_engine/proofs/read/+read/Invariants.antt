@@ -1,8 +1,8 @@
 use Rattle.std.proofs.Common.{◌≡◌, ◌+◌, ◌*◌, ◌++◌, drop}
-use Rattle.grammar_engine.proofs.Grown.{Grows}
-use Rattle.grammar_engine.proofs.Allowing.{Ready}
-use Rattle.grammar_engine.proofs.Going.{Going}
-use Rattle.grammar_engine.proofs.Smaller.{left_over}
+use Rattle.grammar_engine.proofs.Keeping.Grown.{Grows}
+use Rattle.grammar_engine.proofs.Keeping.Allowing.{Ready}
+use Rattle.grammar_engine.proofs.Keeping.Going.{Going}
+use Rattle.grammar_engine.proofs.Keeping.Smaller.{left_over}
 use Rattle.grammar_engine.proofs.read.+read.Given as goal
 
 abbrev pub decreases-is_bind : goal.decreases-is_bind

@@ -1,10 +1,10 @@
 use Rattle.std.proofs.Common.{arith, subst}
 use Rattle.grammar_engine.specs.Allowed.{StopsAllowed}
 use Rattle.grammar_engine.specs.Exact.{StopsText}
-use Rattle.grammar_engine.proofs.Ranks.{less}
-use Rattle.grammar_engine.proofs.Refusing.{none_goes}
-use Rattle.grammar_engine.proofs.Whole.{allows_at, goes_on_whole, goes_on_later}
+use Rattle.grammar_engine.proofs.Texts.Refusing.{none_goes}
+use Rattle.grammar_engine.proofs.Short.Whole.{allows_at, goes_on_whole, goes_on_later}
 use Rattle.grammar_engine.proofs.read.is_deeper.Goals as goal
+use Rattle.grammar_engine.proofs.Bools.{less}
 
 pub returns-in-Ok-clause-deeper : goal.returns-in-Ok-clause-deeper
 returns-in-Ok-clause-deeper c = λ yes. goes_on_whole c.args.tokens.now.items c.args.part 18446744073709551615 c.args.place c.in-Ok._tree c.in-Ok.ensures.tree

@@ -2,7 +2,7 @@ use Rattle.std.proofs.Common.{arith, subst, sym}
 use Rattle.std.proofs.lemmas.Result.{err_from_is_err_and}
 use Rattle.grammar_engine.specs.declared.stop.Stop.TheVariants.{Refused}
 use Rattle.grammar_engine.specs.Exact.{StopsText}
-use Rattle.grammar_engine.proofs.Refusing.{left_text, stops_text}
+use Rattle.grammar_engine.proofs.Texts.Refusing.{left_text, stops_text}
 use Rattle.grammar_engine.proofs.read.read_all.Goals as goal
 
 pub returns-in_err-read-clause-ends : goal.returns-in_err-read-clause-ends

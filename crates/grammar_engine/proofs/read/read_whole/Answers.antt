@@ -3,9 +3,9 @@ use Rattle.surface_grammar.specs.Refusals.{deepest}
 use Rattle.grammar_engine.specs.Allowed.{StopsAllowed}
 use Rattle.grammar_engine.specs.Exact.{NoneGoesOn, StopsText}
 use Rattle.grammar_engine.specs.Stuck.{StopsWhole}
-use Rattle.grammar_engine.proofs.Refusing.{no_text, refused_at}
-use Rattle.grammar_engine.proofs.Sole.{only_tree}
-use Rattle.grammar_engine.proofs.Whole.{allows_at}
+use Rattle.grammar_engine.proofs.Texts.Refusing.{no_text, refused_at}
+use Rattle.grammar_engine.proofs.Trees.Sole.{only_tree}
+use Rattle.grammar_engine.proofs.Short.Whole.{allows_at}
 use Rattle.grammar_engine.proofs.read.read_whole.Goals as goal
 
 pub returns-then-branch-clause-allowed : goal.returns-then-branch-clause-allowed

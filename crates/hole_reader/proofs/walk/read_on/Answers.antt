@@ -1,6 +1,6 @@
 use Rattle.std.proofs.Common.{◌≡◌, ◌<◌, None, drop, subst, sym, ◌∙◌}
 use Rattle.std.proofs.lemmas.Result.{err_from_is_err_and}
-use Rattle.grammar_engine.proofs.Smaller.{left_over, smaller}
+use Rattle.grammar_engine.proofs.Keeping.Smaller.{left_over, smaller}
 use Rattle.hole_reader.specs.Holes.{hole_of}
 use Rattle.hole_reader.specs.Progress.{Comes}
 use Rattle.hole_reader.specs.Progress.Comes.{met}

@@ -1,7 +1,7 @@
 use Rattle.std.proofs.Common.{List, drop}
 use Rattle.surface_grammar.specs.Listings.{Listing}
 use Rattle.grammar_engine.specs.declared.want.Want.{Want}
-use Rattle.grammar_engine.proofs.Smaller.{left_over}
+use Rattle.grammar_engine.proofs.Keeping.Smaller.{left_over}
 use Rattle.hole_reader.specs.Progress.{Comes}
 use Rattle.hole_reader.proofs.walk.read_on.Given as goal
 

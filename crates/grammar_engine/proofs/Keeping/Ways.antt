@@ -18,10 +18,10 @@ use Rattle.grammar_engine.specs.Moves.{Chosen}
 use Rattle.grammar_engine.specs.Passing.{Counts, SoleHere, StopsAll, WayShut, races_of}
 use Rattle.grammar_engine.specs.Rooms.{least_of}
 use Rattle.grammar_engine.specs.Stuck.{MeetsBlocked}
-use Rattle.grammar_engine.proofs.Agreeing.{agrees_next}
-use Rattle.grammar_engine.proofs.Going.{through_less}
-use Rattle.grammar_engine.proofs.Steps.{blocked_none}
-use Rattle.grammar_engine.proofs.Unique.{by_race}
+use Rattle.grammar_engine.proofs.Keeping.Agreeing.{agrees_next}
+use Rattle.grammar_engine.proofs.Keeping.Going.{through_less}
+use Rattle.grammar_engine.proofs.Keeping.Steps.{blocked_none}
+use Rattle.grammar_engine.proofs.Bools.{by_cases}
 
 room_for_two : (items : List Token) (at room races extra : ℕ) → Counts items at room races extra → (extra ≡ 0) ⊎ (2 ≤ room)
 room_for_two items at room races extra (inl e) = inl e
@@ -46,7 +46,7 @@ shut_refused items g y at room races tried far place is low stops l t e = stops 
 pub cramped_blocked : (items : List Token) (g : Form) (q : Rule) (room tag at : ℕ) (stop : Stop) → Chosen g (first_kind (drop at items)) q → (is_raced_form g ≡ false → StartedBy (first_kind (drop at items)) q) → (is_raced_form g ≡ true → least_of q ≤ room)
     → Cramped q room stop → MeetsBlocked items (One g) room tag at stop
 cramped_blocked items g q room tag at Memory chosen begun roomy h = tt
-cramped_blocked items g q room tag at (Refused place) chosen begun roomy h = by_form (by_race (is_raced_form g))
+cramped_blocked items g q room tag at (Refused place) chosen begun roomy h = by_form (by_cases (is_raced_form g))
   where
     by_form : (is_raced_form g ≡ true) ⊎ (is_raced_form g ≡ false) → MeetsBlocked items (One g) room tag at (Refused place)
     by_form (inl raced) = absurd (omega (arith, h, roomy raced))

@@ -14,9 +14,9 @@ use Rattle.grammar_engine.specs.declared.machine.Machine.{Machine}
 use Rattle.grammar_engine.specs.Moves.{wants_of, goes_by, MeetsPart}
 use Rattle.grammar_engine.specs.Passing.{Counts}
 use Rattle.grammar_engine.specs.Solid.{solid_or, first_solid}
-use Rattle.grammar_engine.proofs.Passed.{want}
-use Rattle.grammar_engine.proofs.Ranks.{rank_low}
-use Rattle.grammar_engine.proofs.Smaller.{height_part, left_over, smaller}
+use Rattle.grammar_engine.proofs.Keeping.Passed.{want}
+use Rattle.grammar_engine.proofs.Table.Ranks.{rank_low}
+use Rattle.grammar_engine.proofs.Keeping.Smaller.{height_part, left_over, smaller}
 
 -- each has so much room
 abbrev pub AllRoom : ℕ → List Want → Type 0

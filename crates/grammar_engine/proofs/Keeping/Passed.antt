@@ -24,9 +24,9 @@ use Rattle.grammar_engine.specs.Passing.{Agrees, Counts, FilledBy, RuleSure, Opt
 use Rattle.grammar_engine.specs.Places.{name_at}
 use Rattle.grammar_engine.specs.Solid.{first_solid}
 use Rattle.grammar_engine.specs.Stuck.{Blocked}
-use Rattle.grammar_engine.proofs.Calm.{parts_of}
-use Rattle.grammar_engine.proofs.Context.{is_exp_tail}
-use Rattle.grammar_engine.proofs.Scan.{scan}
+use Rattle.grammar_engine.proofs.Short.Calm.{parts_of}
+use Rattle.grammar_engine.proofs.Fronts.Context.{is_exp_tail}
+use Rattle.grammar_engine.proofs.Fronts.Scan.{scan}
 
 -- a part that is to be read
 abbrev pub want : Part → ℕ → ℕ → Want

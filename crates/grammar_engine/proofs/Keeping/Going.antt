@@ -23,15 +23,15 @@ use Rattle.grammar_engine.specs.Passing.{Agrees, Counts, FilledBy, Marked, MarkS
 use Rattle.grammar_engine.specs.Places.{name_at}
 use Rattle.grammar_engine.specs.Single.{is_text_part}
 use Rattle.grammar_engine.specs.Stuck.{Blocked, MeetsBlocked}
-use Rattle.grammar_engine.proofs.Agreeing.{kinds_same, agrees_less, agrees_next, agrees_past}
-use Rattle.grammar_engine.proofs.Context.{tidy}
-use Rattle.grammar_engine.proofs.Passed.{want, Stepped}
-use Rattle.grammar_engine.proofs.Raced.{Raced, raced_meets, raced_start, raced_exp, raced_open}
-use Rattle.grammar_engine.proofs.Racing.{rule_same, option_same}
-use Rattle.grammar_engine.proofs.Roomy.{Roomed, room_start, room_meets, room_two, room_counts, room_solid}
-use Rattle.grammar_engine.proofs.Steps.{step_word, step_rule, step_many, step_maybe, blocked_none, closed, not_open}
-use Rattle.grammar_engine.proofs.Trailing.{Trails, Closes, starts_tidy, trails_meets, never_open, text_ends, text_marks}
-use Rattle.grammar_engine.proofs.Unique.{front_kind}
+use Rattle.grammar_engine.proofs.Keeping.Agreeing.{kinds_same, agrees_less, agrees_next, agrees_past}
+use Rattle.grammar_engine.proofs.Fronts.Context.{tidy}
+use Rattle.grammar_engine.proofs.Keeping.Passed.{want, Stepped}
+use Rattle.grammar_engine.proofs.Keeping.Raced.{Raced, raced_meets, raced_start, raced_exp, raced_open}
+use Rattle.grammar_engine.proofs.Keeping.Racing.{rule_same, option_same}
+use Rattle.grammar_engine.proofs.Keeping.Roomy.{Roomed, room_start, room_meets, room_two, room_counts, room_solid}
+use Rattle.grammar_engine.proofs.Keeping.Steps.{step_word, step_rule, step_many, step_maybe, blocked_none, closed, not_open}
+use Rattle.grammar_engine.proofs.Keeping.Trailing.{Trails, Closes, starts_tidy, trails_meets, never_open, text_ends, text_marks}
+use Rattle.grammar_engine.proofs.Trees.Unique.{front_kind}
 
 -- trees for what is to be read, which make up the tree with what was read
 pub record Passed (extra : ℕ) (items : List Token) (node : Node) (tail : List Token) (ws : List Want) (leaves : List Token) (marks : List Mark) : Type 0 where
@@ -262,7 +262,7 @@ going_stops items p at room races q r tag a (Refused place) (far, raised, is) bl
     blocked_nodes items q r tag a.at t.extra d.0.nodes a.wants t.tail blocked (room_two t.extra races items a.at (want q r tag) a.wants d.1.roomed) d.0.filled (agrees_next items a.at place (spell_all d.0.nodes ++ t.tail) d.1.come d.1.agrees)
 going_stops items p at room races q r tag a Memory b blocked read g = tt
 
-no_nodes : (extra : ℕ) (items : List Token) (nodes : Nodes) (x : Option Kind) → FilledBy extra items nodes [] x → nodes ≡ none
+pub no_nodes : (extra : ℕ) (items : List Token) (nodes : Nodes) (x : Option Kind) → FilledBy extra items nodes [] x → nodes ≡ none
 no_nodes extra items none x filled = refl
 no_nodes extra items (more n nodes) x filled = absurd filled
 

@@ -20,12 +20,12 @@ use Rattle.grammar_engine.specs.declared.stop.Stop.TheVariants.{Refused, Memory}
 use Rattle.grammar_engine.specs.Moves.{wants_of, goes_by, MeetsPart, Begun}
 use Rattle.grammar_engine.specs.Rooms.{least_of}
 use Rattle.grammar_engine.specs.Stuck.{MeetsBlocked, StopsStuck}
-use Rattle.grammar_engine.proofs.Allowing.{Ready, at_max, inside, grown_begins, begins_at, bind_allowed, kind_allowed}
-use Rattle.grammar_engine.proofs.Calm.{nexts, follows, behind, calm, fits_room, rooms, tail_rooms, fill_wants, parts_of, Roomy, TailRoomy, and_both, calm_some, calm_append}
-use Rattle.grammar_engine.proofs.Filling.{rule_calm, rule_rooms, filled, tail_more_room}
-use Rattle.grammar_engine.proofs.Grown.{Grows}
-use Rattle.grammar_engine.proofs.Ranks.{and_left, and_right, every}
-use Rattle.grammar_engine.proofs.Splicing.{splice_allowed}
+use Rattle.grammar_engine.proofs.Keeping.Allowing.{Ready, at_max, inside, grown_begins, begins_at, bind_allowed, kind_allowed}
+use Rattle.grammar_engine.proofs.Short.Calm.{nexts, follows, behind, calm, fits_room, rooms, tail_rooms, fill_wants, parts_of, Roomy, TailRoomy, and_both, calm_some, calm_append}
+use Rattle.grammar_engine.proofs.Short.Filling.{rule_calm, rule_rooms, filled, tail_more_room}
+use Rattle.grammar_engine.proofs.Keeping.Grown.{Grows}
+use Rattle.grammar_engine.proofs.Keeping.Splicing.{splice_allowed}
+use Rattle.grammar_engine.proofs.Bools.{and_left, and_right, every}
 
 -- the part that is met next, before what stays
 abbrev pub want : Part → ℕ → ℕ → Want

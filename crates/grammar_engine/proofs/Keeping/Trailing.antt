@@ -23,15 +23,16 @@ use Rattle.grammar_engine.specs.Passing.{FilledBy}
 use Rattle.grammar_engine.specs.Places.{name_at}
 use Rattle.grammar_engine.specs.Single.{is_text_part}
 use Rattle.grammar_engine.specs.Solid.{first_solid}
-use Rattle.grammar_engine.proofs.Calm.{and_both, not_true, parts_of}
-use Rattle.grammar_engine.proofs.Context.{is_exp_tail, is_con_tail, is_paren_end, ends_at, ends_next, colon_next, part_ok, tidy, rule_tidy, Ends, headed, leafed, last_none, next_part, led_colon}
-use Rattle.grammar_engine.proofs.Levels.{rename}
-use Rattle.grammar_engine.proofs.Passed.{want, MarkStands}
-use Rattle.grammar_engine.proofs.Ranks.{and_left, and_right, every}
-use Rattle.grammar_engine.proofs.Roomier.{fits_in}
-use Rattle.grammar_engine.proofs.Scan.{scan}
-use Rattle.grammar_engine.proofs.Skimmed.{exact}
-use Rattle.grammar_engine.proofs.TextParts.{many_whole}
+use Rattle.grammar_engine.proofs.Short.Calm.{and_both, not_true, parts_of}
+use Rattle.grammar_engine.proofs.Fronts.Context.{is_exp_tail, is_con_tail, is_paren_end, ends_at, ends_next, colon_next, part_ok, tidy, rule_tidy, Ends, headed, leafed, last_none, next_part, led_colon}
+use Rattle.grammar_engine.proofs.Table.Levels.{rename}
+use Rattle.grammar_engine.proofs.Keeping.Passed.{want, MarkStands}
+use Rattle.grammar_engine.proofs.Trees.Roomier.{fits_in}
+use Rattle.grammar_engine.proofs.Fronts.Scan.{scan}
+use Rattle.grammar_engine.proofs.Fronts.Skimmed.{exact}
+use Rattle.grammar_engine.proofs.Bools.{and_left, and_right, every, unless, or_split}
+use Rattle.grammar_engine.proofs.Trees.TextParts.{part_whole}
+use Rattle.grammar_engine.proofs.Keeping.Readies.{parts_append}
 
 -- the parts of what is to be read are tidy, where behind all of it such a text stands
 abbrev pub Trails : Bool → List Want → Type 0
@@ -48,23 +49,11 @@ pub record Starts (p : Part) (tail : List Token) : Type 0 where
   pub trails : tidy e true (p ∷ []) ≡ true
   pub closes : Closes e tail
 
-both_open : (a b : Bool) → ((a || true) && (b || true)) ≡ true
-both_open true true = refl
-both_open true false = refl
-both_open false true = refl
-both_open false false = refl
-
-whole_ok : (p : Part) → is_text_part p ≡ true → part_ok true true p [] ≡ true
-whole_ok (Word w) h = refl
-whole_ok (One g) h = both_open (not (is_exp_tail g)) (not (is_con_tail g))
-whole_ok (Many g) h = many_whole g h
-whole_ok (Maybe g) h = both_open (not (is_exp_tail g)) (not (is_con_tail g))
-
 not_colons : (x y : Kind) → Some x ≡ Some y → kind_code x ≡ kind_code y
 not_colons x y e = cc
 
 start_with : (p : Part) (tail : List Token) (x : Option Kind) → first_kind tail ≡ x → is_text_part p ≡ true → may_stand_behind p x ≡ true → Starts p tail
-start_with p [] None is h ok = record { e = true; trails = and_both (part_ok true true p []) true (whole_ok p h) refl; closes = record { ends = λ i. refl; plain = λ i. cc } }
+start_with p [] None is h ok = record { e = true; trails = and_both (part_ok true true p []) true (part_whole p h) refl; closes = record { ends = λ i. refl; plain = λ i. cc } }
 start_with p (t ∷ tail) None is h ok = cc
 start_with p [] (Some x) is h ok = cc
 start_with (One f.Pat) (t ∷ tail) (Some k.LeftArrow) is h ok = record { e = false; trails = refl; closes = record { ends = λ i. cc; plain = λ i. let bad : Some k.LeftArrow ≡ Some k.DoubleColon = sym is ∙ i in cc } }
@@ -136,20 +125,12 @@ tidy_behind a b e c [] qs m n h k = k
 tidy_behind a b e c (p ∷ ps) qs m n h k =
     and_both (part_ok e c p (ps ++ qs)) (tidy e c (ps ++ qs)) (part_behind a b e c p ps qs m n (and_left (part_ok a b p ps) (tidy a b ps) h)) (tidy_behind a b e c ps qs m n (and_right (part_ok a b p ps) (tidy a b ps) h) k)
 
-unless : (a b : Bool) → (not a || b) ≡ true → a ≡ true → b ≡ true
-unless true b h e = h
-unless false b h e = cc
-
 -- the parts of a rule in place of its form
 rule_trails : (e : Bool) (g : Form) (q : Rule) (ps : List Part) → IsIn q (rules_of g) → tidy e true (One g ∷ ps) ≡ true → tidy e true (body_of q ++ ps) ≡ true
 rule_trails e g q ps i h =
     let ok = and_left (part_ok e true (One g) ps) (tidy e true ps) h in
     tidy_behind (is_exp_tail g) (is_con_tail g) e true (body_of q) ps (unless (is_exp_tail g) (ends_next e ps) (and_left (not (is_exp_tail g) || ends_next e ps) _ ok))
     (unless (is_con_tail g) (colon_next true ps) (and_right (not (is_exp_tail g) || ends_next e ps) _ ok)) (rule_tidy g q i) (and_right (part_ok e true (One g) ps) (tidy e true ps) h)
-
-pub parts_append : (room tag : ℕ) (ps : List Part) (ws : List Want) → parts_of (wants_of room tag ps ++ ws) ≡ ps ++ parts_of ws
-parts_append room tag [] ws = refl
-parts_append room tag (p ∷ ps) ws = ap (λ l. p ∷ l) (parts_append room tag ps ws)
 
 trails_goes : (b : Bool) (e : Bool) (g : Form) (room tag : ℕ) (extra : List Want) (a c : Machine) → goes_by b g room tag extra a c → Trails e (want (One g) room tag ∷ extra ++ a.wants) → Trails e a.wants → Trails e c.wants
 trails_goes true e g room tag extra a c by on off = subst (Trails e) (sym by.0) on
@@ -258,10 +239,6 @@ stands_node absent g room name x text i fit h = absurd fit
 stands_node (present n) g room name x text i fit h = absurd fit
 stands_node (branch q ns) f.ConParenEnd room name x text i fit h = (refl, stands_in room room fit.0 (depth_of q) name fit.1 (spell_all ns ++ text) fit.2.room_left (stands_rule q ns fit.0 fit.1 x text fit.2.rule fit.3 h))
 stands_node (branch q ns) g room name x text i fit h = cc
-
-or_split : {A : Type 0} (b c : Bool) → (b || c) ≡ true → (b ≡ true → A) → (c ≡ true → A) → A
-or_split true c h l r = l refl
-or_split false c h l r = r h
 
 stands_here : (items : List Token) (extra : ℕ) (g : Form) (room tag : ℕ) (ws : List Want) (text : List Token) → g ≡ f.ConParenEnd → Standing (room + extra) (name_at items tag) text → MarkStands items (want (One g) room tag ∷ ws) extra text
 stands_here items extra g room tag ws text i s = record { want = want (One g) room tag; solid = refl; part = ap One i; colons = s.colons; node = s.node; close = s.close; rest = s.rest; fits = s.fits; closes = s.closes; is = s.is }

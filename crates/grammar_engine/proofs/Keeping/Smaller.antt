@@ -11,7 +11,7 @@ use Rattle.surface_grammar.specs.Trees.{IsIn}
 use Rattle.grammar_engine.specs.declared.want.Want.{Want}
 use Rattle.grammar_engine.specs.declared.machine.Machine.{Machine}
 use Rattle.grammar_engine.specs.Moves.{wants_of, goes_by, MeetsPart}
-use Rattle.grammar_engine.proofs.Ranks.{rank_of, lead, rank_low, leads_below, body_short}
+use Rattle.grammar_engine.proofs.Table.Ranks.{rank_of, lead, rank_low, leads_below, body_short}
 
 abbrev pub height_part : Part → ℕ → ℕ
 height_part (Word w) below = 0

@@ -26,15 +26,16 @@ use Rattle.grammar_engine.specs.Moves.{wants_of}
 use Rattle.grammar_engine.specs.Passing.{FilledBy}
 use Rattle.grammar_engine.specs.Places.{name_at}
 use Rattle.grammar_engine.specs.Rooms.{least_of}
-use Rattle.grammar_engine.proofs.Agreeing.{kinds_same, contents_same, opens}
-use Rattle.grammar_engine.proofs.Calm.{parts_of}
-use Rattle.grammar_engine.proofs.Decided.{rule_solid, one_rule}
-use Rattle.grammar_engine.proofs.Grown.{front_append}
-use Rattle.grammar_engine.proofs.Leading.{started, node_led, nodes_led}
-use Rattle.grammar_engine.proofs.Least.{least_low, least_needed}
-use Rattle.grammar_engine.proofs.Passed.{want, Stepped, StepWord, StepRule, StepMany, StepMaybe, BlockedNone}
-use Rattle.grammar_engine.proofs.Readies.{parts_append}
-use Rattle.grammar_engine.proofs.Unique.{front_kind, begun_kind}
+use Rattle.grammar_engine.proofs.Keeping.Agreeing.{kinds_same, contents_same, opens}
+use Rattle.grammar_engine.proofs.Short.Calm.{parts_of}
+use Rattle.grammar_engine.proofs.Table.Decided.{rule_solid, one_rule}
+use Rattle.grammar_engine.proofs.Keeping.Grown.{front_append}
+use Rattle.grammar_engine.proofs.Trees.Leading.{started, node_led, nodes_led}
+use Rattle.grammar_engine.proofs.Table.Least.{least_low, least_needed}
+use Rattle.grammar_engine.proofs.Keeping.Passed.{want, Stepped, StepWord, StepRule, StepMany, StepMaybe, BlockedNone}
+use Rattle.grammar_engine.proofs.Keeping.Readies.{parts_append}
+use Rattle.grammar_engine.proofs.Trees.Unique.{front_kind, begun_kind}
+use Rattle.grammar_engine.proofs.Bools.{less, clash, by_cases}
 
 -- the word
 word_same : (t u : Token) (a b : List Token) → take 1 (u ∷ a) ≡ take 1 (t ∷ b) → u ≡ t
@@ -85,10 +86,6 @@ element_named (r.Markup markup.NodeElement) (more absent ns) room own x text e f
 element_named (r.Markup markup.NodeElement) (more (present o) ns) room own x text e f = absurd f.0
 element_named q ns room own x text e f = cc
 
-by_element : (b : Bool) → (b ≡ true) ⊎ (b ≡ false)
-by_element true = inl refl
-by_element false = inr refl
-
 own_same : (items : List Token) (q : Rule) (ns : Nodes) (inside tag at own : ℕ) (mine : Content) (x : Option Kind) (text : List Token) → (is_element q ≡ false → name_at items own ≡ name_at items tag) → (is_element q ≡ true → own ≡ at)
     → (is_element q ≡ false → mine ≡ name_at items tag) → FitsAll inside mine ns (body_of q) x → take 1 (spell_all ns ++ text) ≡ take 1 (drop at items) → (is_element q ≡ true) ⊎ (is_element q ≡ false) → mine ≡ name_at items own
 own_same items q ns inside tag at own mine x text named begun named' f e (inl i) = sym (element_named q ns inside mine x text i f) ∙ contents_same (spell_all ns ++ text) (drop at items) e ∙ ap (name_at items) (sym (begun i))
@@ -115,7 +112,7 @@ rule_stepped items extra g room tag at inner own q ws ns others tail b begun f e
     subst (λ i. FitsAll i f.0.1 ns (body_of q) (front (spell_all others) (first_kind tail))) (same_room inner f.0.0 (depth_of q) room extra b.room_left f.0.2.room_left) f.0.3 in
     let name : f.0.1 ≡ name_at items own =
     own_same items q ns f.0.0 tag at own f.0.1 (front (spell_all others) (first_kind tail)) (spell_all others ++ tail) b.named begun f.0.2.named f.0.3
-    (subst (λ l. take 1 l ≡ take 1 (drop at items)) (append_assoc (spell_all ns) (spell_all others) tail) e) (by_element (is_element q)) in
+    (subst (λ l. take 1 l ≡ take 1 (drop at items)) (append_assoc (spell_all ns) (spell_all others) tail) e) (by_cases (is_element q)) in
     record {
       rest = joined ns others;
       filled = filled_join items extra inner own f.0.1 (body_of q) ws ns others (first_kind tail) name fits f.1;
@@ -144,10 +141,6 @@ pub closed : (b o : Bool) → (b && not o) ≡ false → o ≡ false → b ≡ f
 closed true true h e = cc
 closed true false h e = cc
 closed false o h e = refl
-
-pub clash : {A : Type 0} (b : Bool) → b ≡ true → b ≡ false → A
-clash true e e' = cc
-clash false e e' = cc
 
 pub many_ends : (items : List Token) (extra : ℕ) (g : Form) (room tag at : ℕ) (ws : List Want) (others : Nodes) (tail : List Token) → (g ≡ f.ConForall → ⊥)
     → must_go_on g (front (spell_all others) (first_kind tail)) ≡ false → take 1 (spell_all others ++ tail) ≡ take 1 (drop at items) → begins g (first_kind (drop at items)) ≡ false

@@ -17,11 +17,11 @@ use Rattle.surface_grammar.specs.Words.{accept}
 use Rattle.grammar_engine.specs.declared.want.Want.{Want}
 use Rattle.grammar_engine.specs.Allowed.{AllowedAt}
 use Rattle.grammar_engine.specs.Places.{name_at}
-use Rattle.grammar_engine.proofs.Allowing.{Ready, token_at, grown_begins, among_none}
-use Rattle.grammar_engine.proofs.Calm.{nexts, behind, calm, shortest, fill_wants, parts_of}
-use Rattle.grammar_engine.proofs.Filling.{short, short_fits, filled}
-use Rattle.grammar_engine.proofs.Grown.{Grows}
-use Rattle.grammar_engine.proofs.Ranks.{and_right, every}
+use Rattle.grammar_engine.proofs.Keeping.Allowing.{Ready, token_at, grown_begins, among_none}
+use Rattle.grammar_engine.proofs.Short.Calm.{nexts, behind, calm, shortest, fill_wants, parts_of}
+use Rattle.grammar_engine.proofs.Short.Filling.{short, short_fits, filled}
+use Rattle.grammar_engine.proofs.Keeping.Grown.{Grows}
+use Rattle.grammar_engine.proofs.Bools.{and_right, every}
 
 pub splice_allowed : (items : List Token) (p : Part) (at room here place space tag : ℕ) (ws : List Want) (leaves : List Token) (marks : List Mark)
     → Grows items p at room (drop here items) (record { part = One f.SqlBraceRest; room = space; tag = tag } ∷ ws) leaves marks → drop at items ≡ leaves ++ drop here items

@@ -11,7 +11,7 @@ use Rattle.grammar_engine.specs.declared.want.Want.{Want}
 use Rattle.grammar_engine.specs.declared.machine.Machine.{Machine}
 use Rattle.grammar_engine.specs.Moves.{Begun, goes_by, MeetsPart}
 use Rattle.grammar_engine.specs.Reads.{Reads}
-use Rattle.grammar_engine.proofs.Grown.{Grows, grows_first, grows_word, grows_rule, grows_end, grows_item, grows_absent, grows_present}
+use Rattle.grammar_engine.proofs.Keeping.Grown.{Grows, grows_first, grows_word, grows_rule, grows_end, grows_item, grows_absent, grows_present}
 
 -- the same at equal parts of a state
 moved : (items : List Token) (p : Part) (at room : ℕ) (rest rest' : List Token) (ws ws' : List Want) (leaves leaves' : List Token) (marks marks' : List Mark)

@@ -19,18 +19,18 @@ use Rattle.grammar_engine.specs.Allowed.{may_stand_behind}
 use Rattle.grammar_engine.specs.Passing.{Agrees, Ample, Counts, WayOpen, WayShut, BindSure, BraceSure, OptionSure}
 use Rattle.grammar_engine.specs.Places.{name_at}
 use Rattle.grammar_engine.specs.Solid.{first_solid}
-use Rattle.grammar_engine.proofs.Agreeing.{kinds_same, agrees_less, agrees_next, agrees_later, agrees_front, opens}
-use Rattle.grammar_engine.proofs.Context.{headed, MarkedText}
-use Rattle.grammar_engine.proofs.Leading.{node_led}
-use Rattle.grammar_engine.proofs.Least.{floors_needed}
-use Rattle.grammar_engine.proofs.Levels.{rename}
-use Rattle.grammar_engine.proofs.ListFronts.{exp_begins, splice_begins}
-use Rattle.grammar_engine.proofs.Passed.{RuleSame, OptionSame, MarkStands}
-use Rattle.grammar_engine.proofs.Scan.{scan}
-use Rattle.grammar_engine.proofs.Scanned.{bindings_apart}
-use Rattle.grammar_engine.proofs.Sole.{arrow, forall_rule, open_is}
-use Rattle.grammar_engine.proofs.Steps.{form_begins, begun_rule, one_started}
-use Rattle.grammar_engine.proofs.Unique.{front_kind, is_left_open}
+use Rattle.grammar_engine.proofs.Keeping.Agreeing.{kinds_same, agrees_less, agrees_next, agrees_later, agrees_front, opens}
+use Rattle.grammar_engine.proofs.Fronts.Context.{headed, MarkedText}
+use Rattle.grammar_engine.proofs.Trees.Leading.{node_led}
+use Rattle.grammar_engine.proofs.Table.Least.{floors_needed}
+use Rattle.grammar_engine.proofs.Table.Levels.{rename}
+use Rattle.grammar_engine.proofs.Fronts.ListFronts.{exp_begins, splice_begins}
+use Rattle.grammar_engine.proofs.Keeping.Passed.{RuleSame, OptionSame, MarkStands}
+use Rattle.grammar_engine.proofs.Fronts.Scan.{scan}
+use Rattle.grammar_engine.proofs.Fronts.Scanned.{bindings_apart}
+use Rattle.grammar_engine.proofs.Trees.Sole.{arrow, forall_rule, open_is}
+use Rattle.grammar_engine.proofs.Keeping.Steps.{form_begins, begun_rule, one_started}
+use Rattle.grammar_engine.proofs.Trees.Unique.{front_kind, is_left_open}
 
 none : {A : Type 0} → ⊥ → A
 none e = absurd e

@@ -21,11 +21,11 @@ use Rattle.grammar_engine.specs.declared.want.Want.{Want}
 use Rattle.grammar_engine.specs.Allowed.{may_stand_behind, Begins, AllowedAt, MarksKind}
 use Rattle.grammar_engine.specs.Places.{name_at}
 use Rattle.grammar_engine.specs.Solid.{solid_or, first_solid}
-use Rattle.grammar_engine.proofs.Calm.{nexts, follows, behind, calm, shortest, fill_wants, parts_of, Roomy, TailRoomy, not_true, calm_some}
-use Rattle.grammar_engine.proofs.Filling.{rule_calm, short, short_leads, short_fits, front_wants, filled, follows_one}
-use Rattle.grammar_engine.proofs.Grown.{Filled, Grows, front_append}
-use Rattle.grammar_engine.proofs.Levels.{rename}
-use Rattle.grammar_engine.proofs.Ranks.{and_left, and_right, every}
+use Rattle.grammar_engine.proofs.Short.Calm.{nexts, follows, behind, calm, shortest, fill_wants, parts_of, Roomy, TailRoomy, not_true, calm_some}
+use Rattle.grammar_engine.proofs.Short.Filling.{rule_calm, short, short_leads, short_fits, front_wants, filled, follows_one}
+use Rattle.grammar_engine.proofs.Keeping.Grown.{Filled, Grows, front_append}
+use Rattle.grammar_engine.proofs.Table.Levels.{rename}
+use Rattle.grammar_engine.proofs.Bools.{and_left, and_right, every}
 
 -- what stays to be read can be filled, and what was read is allowed
 pub record Ready (items : List Token) (p : Part) (at room here far : ℕ) (ws : List Want) : Type 0 where

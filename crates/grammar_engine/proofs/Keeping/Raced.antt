@@ -11,12 +11,12 @@ use Rattle.grammar_engine.specs.declared.want.Want.{Want}
 use Rattle.grammar_engine.specs.declared.machine.Machine.{Machine}
 use Rattle.grammar_engine.specs.Moves.{goes_by, MeetsPart}
 use Rattle.grammar_engine.specs.Passing.{races_of}
-use Rattle.grammar_engine.proofs.Calm.{and_both, at_most, parts_of}
-use Rattle.grammar_engine.proofs.Levels.{level_of, part_keeps, keep_all, rule_keeps}
-use Rattle.grammar_engine.proofs.Passed.{want}
-use Rattle.grammar_engine.proofs.Ranks.{and_left, and_right}
-use Rattle.grammar_engine.proofs.Trailing.{parts_append}
-use Rattle.grammar_engine.proofs.EveryForm.{of_each}
+use Rattle.grammar_engine.proofs.Short.Calm.{and_both, at_most, parts_of}
+use Rattle.grammar_engine.proofs.Table.Levels.{level_of, part_keeps, keep_all, rule_keeps}
+use Rattle.grammar_engine.proofs.Keeping.Passed.{want}
+use Rattle.surface_grammar.proofs.Every.{of_each}
+use Rattle.grammar_engine.proofs.Bools.{and_left, and_right, or_first}
+use Rattle.grammar_engine.proofs.Keeping.Readies.{parts_append}
 
 -- so many races are enough for all that is to be read
 abbrev pub Raced : ℕ → List Want → Type 0
@@ -27,10 +27,6 @@ wider a n m h l = grown (at_most a n h)
   where
     grown : a ≤ n → nat_le a m ≡ true
     grown k = search (arith, k, l)
-
-or_first : (a b : Bool) → a ≡ true → (a || b) ≡ true
-or_first true b h = refl
-or_first false b h = cc
 
 or_either : (a b c : Bool) → (a ≡ true → c ≡ true) → (a || b) ≡ true → (c || b) ≡ true
 or_either true b c m h = or_first c b (m refl)

@@ -1,0 +1,31 @@
+-- What the steps of reading keep. Behind each file: the public clause for which it serves.
+-- `read_part`: `reads`
+pub mod Grown
+-- `read_part`: `reads`, `stuck`
+pub mod Grows
+-- `read_part` ends
+pub mod Smaller
+-- `read_part`: `allowed`, `come`
+pub mod Allowing
+-- `read_part`: `allowed`: a `[` in braces of a query
+pub mod Splicing
+-- `read_part`: `allowed`, `stuck`
+pub mod Readies
+-- `read_part`: `sole`, `ends`: texts with the same tokens up to a place
+pub mod Agreeing
+-- `read_part`: `sole`, `ends`: what a step gives each tree that agrees
+pub mod Passed
+-- `read_part`: `sole`, `ends`: each step
+pub mod Steps
+-- `read_part`: `sole`, `ends`: what stands behind a part
+pub mod Trailing
+-- `read_part`: `sole`, `ends`: how many races are needed
+pub mod Raced
+-- `read_part`: `sole`, `ends`: the raced rules
+pub mod Racing
+-- `read_part`: `sole`, `ends`: ample room stays ample
+pub mod Roomy
+-- `read_part`: `sole`, `ends`
+pub mod Going
+-- `try_way`: `shut`
+pub mod Ways
