@@ -1,4 +1,4 @@
-// Commits to a cell by several threads.
+//! Commits to a cell by several threads.
 ghost use Rattle.std.specs.Prelude.{◌<◌, length, All, IfSome};
 ghost use Rattle.commit_cell.specs.Words.{IsFreeOf};
 ghost use Rattle.cell_bench.specs.Ready.{IsReady};
@@ -18,6 +18,7 @@ pub struct Worker {
     pub pass: Pass<Tally>,
 }
 
+/// One commit in a turn at the cell.
 fn commit<R: Wait>(rt: &R, cell: &Cell<Tally>, pass: &mut Pass<Tally>, rounds: u64)
     requires { IsFreeOf cell.now pass.old }
     ensures { IsFreeOf cell.now pass.new }
@@ -37,6 +38,7 @@ fn commit<R: Wait>(rt: &R, cell: &Cell<Tally>, pass: &mut Pass<Tally>, rounds: u
     cell.give_entry(turn, pass, &entry);
 }
 
+/// All commits of one worker.
 fn commit_all<R: Wait>(rt: &R, cell: &Cell<Tally>, load: Load, worker: &mut Worker)
     requires { IsReady cell.now worker.old }
     ensures { IsReady cell.now worker.new }
@@ -46,6 +48,7 @@ fn commit_all<R: Wait>(rt: &R, cell: &Cell<Tally>, load: Load, worker: &mut Work
     }
 }
 
+/// Lets all workers commit, each in a thread of its own.
 fn serve<R: Wait + Threads + Sync>(rt: &R, cell: &Cell<Tally>, load: Load, workers: &mut [Worker])
     requires some { 0 < length workers.old }
     requires ready { All (λ w. IsReady cell.now w) workers.old }
@@ -59,6 +62,7 @@ fn serve<R: Wait + Threads + Sync>(rt: &R, cell: &Cell<Tally>, load: Load, worke
     );
 }
 
+/// So many workers, each with a pass of its own.
 fn staff<R: Wait>(
     rt: &R,
     alloc: Global,

@@ -1,4 +1,4 @@
-// How much each thread does.
+//! How much each thread does.
 use std::hint::spin_loop;
 use std::num::saturating_f64_to_u64;
 use std::time::{Clock, Instant};

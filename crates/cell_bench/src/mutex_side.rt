@@ -1,4 +1,4 @@
-// The same under a mutex.
+//! The same under a mutex.
 ghost use Rattle.std.specs.Prelude.{◌<◌, length};
 
 use crate::load::{Load, work};
@@ -16,6 +16,7 @@ struct Worker {
     made: u64,
 }
 
+/// One commit under the lock.
 fn commit<R: Wait>(rt: &R, tally: &Mutex<Tally>, worker: &mut Worker, rounds: u64) {
     let mut tally = tally.lock(rt);
     let total = tally.total;
@@ -31,12 +32,14 @@ fn commit<R: Wait>(rt: &R, tally: &Mutex<Tally>, worker: &mut Worker, rounds: u6
     worker.made = entry.serial + 1;
 }
 
+/// All commits of one worker.
 fn commit_all<R: Wait>(rt: &R, tally: &Mutex<Tally>, load: Load, worker: &mut Worker) {
     for _ in 0..load.commits {
         commit(rt, tally, worker, load.rounds);
     }
 }
 
+/// Lets all workers commit, each in a thread of its own.
 fn serve<R: Wait + Threads + Sync>(rt: &R, tally: &Mutex<Tally>, load: Load, workers: &mut [Worker])
     requires { 0 < length workers.old }
 {

@@ -1,4 +1,4 @@
-// The two runs, as they are printed.
+//! The two runs, as they are printed.
 use crate::cell_side::cell_time;
 use crate::load::{Load, rounds_of};
 use crate::mutex_side::mutex_time;
@@ -10,7 +10,7 @@ use std::time::{Clock, Duration};
 
 const THREADS: [u32; 3] = [1, 2, 4];
 
-// How often each measurement is made; the middle one counts, since the best would be one in which no thread waits.
+/// How often each measurement is made; the middle one counts, since the best would be one in which no thread waits.
 const TRIALS: u32 = 41;
 
 /// A few commits by each side, with the counts that they leave.
@@ -27,6 +27,7 @@ pub fn tiny<R: Wait + Threads + Clock + Print + Sync>(rt: &R, alloc: Global) -> 
     Ok(())
 }
 
+/// The middle one of the measured times, in seconds.
 fn middle(times: &mut Vec<Duration>) -> Option<f64> {
     times.sort().ok()?;
     times.get(times.len() / 2).map(|time| time.as_secs_f64())
@@ -44,6 +45,7 @@ pub fn full<R: Wait + Threads + Clock + Print + Sync>(rt: &R, alloc: Global) -> 
     Ok(())
 }
 
+/// Measures one load on both sides, and prints what it found.
 fn line<R: Wait + Threads + Clock + Print + Sync>(
     rt: &R,
     alloc: Global,

@@ -1,4 +1,4 @@
-// A number that counts its entries, which is the least that a store can be.
+//! A number that counts its entries, which is the least that a store can be.
 use commit_cell::Replays;
 
 /// One count: who made it, and how many that one had made before.
