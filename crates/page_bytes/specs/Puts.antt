@@ -12,9 +12,10 @@ Sends old new held holds bytes = (front : List ℕ) × Appends old new front × 
 abbrev pub Stops : Option (List ℕ) → Option (List ℕ) → List ℕ → List ℕ → Type 0
 Stops old new held bytes = (front : List ℕ) × (rest : List ℕ) × Appends old new front × (front ++ rest ≡ held ++ bytes)
 
--- Bytes are put out, or a call of the sink failed, which it counted, and it got a front of them.
--- `old` and `new` are what the sink got before and after, `held` and `holds` what is gathered, `faults` and `counted` its failures.
-pub record Puts {E : Type 0} (outcome : Result (Unit {0}) E) (old new : Option (List ℕ)) (held holds : List ℕ) (faults counted : ℕ) (bytes : List ℕ) : Type 0 where
+-- Bytes are put out, or a call of the sink failed, which it counted, and it got a front of them. `old` and `new` are
+-- what the sink got before and after, `held` and `holds` what is gathered, `faults` and `counted` its failures.
+pub record Puts {E : Type 0} (outcome : Result (Unit {0}) E) (old new : Option (List ℕ)) (held holds : List ℕ)
+    (faults counted : ℕ) (bytes : List ℕ) : Type 0 where
   pub sends : OnOk outcome (Sends old new held holds bytes)
   pub stops : OnErr outcome (Stops old new held bytes)
   pub later : faults ≤ counted

@@ -25,7 +25,8 @@ pub enum Chunk<'a> {
 
 /// The front of a tag, up to the attributes that it is given.
 pub fn tag_front(tag: &Tag) -> [Chunk<'_>; 5]
-    ensures { flat_map chunk_bytes result ≡ codes "<" ++ (name_bytes (name_of tag.now) ++ flat_map attribute_bytes (own_attributes tag.now)) }
+    ensures { flat_map chunk_bytes result
+        ≡ codes "<" ++ (name_bytes (name_of tag.now) ++ flat_map attribute_bytes (own_attributes tag.now)) }
 {
     match tag {
         Tag::Textbox(field) => input(" type=\"text\" name=\"", field),

@@ -14,7 +14,8 @@ pub type Held = ArrayVec<u8, MOST_HELD>;
 
 /// Hands bytes to the sink while nothing is held.
 fn send<K: Sink>(sink: &mut K, bytes: &[u8]) -> Result<(), PageFault>
-    ensures { Puts result (K.wrote sink.old) (K.wrote sink.new) [] [] (K.faults sink.old) (K.faults sink.new) bytes.now }
+    ensures { Puts result (K.wrote sink.old) (K.wrote sink.new) [] [] (K.faults sink.old)
+        (K.faults sink.new) bytes.now }
 {
     match write_all(sink, bytes) {
         Ok(()) => Ok(()),

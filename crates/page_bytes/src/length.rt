@@ -30,6 +30,7 @@ fn sum(first: u64, second: u64) -> u64
     (first + second).min(TOO_LONG)
 }
 
+/// The length of a byte as it is written, in a text or in a value.
 fn byte_length(byte: u8, value: bool) -> u64
     ensures exact { result ≡ length (escape_in value byte) }
     ensures short { result ≤ TOO_LONG }
@@ -40,6 +41,7 @@ fn byte_length(byte: u8, value: bool) -> u64
     }
 }
 
+/// The length of a text as it is written.
 fn escaped_length(text: &[u8], value: bool) -> u64
     ensures { result ≡ length_told (flat_map (escape_in value) text.now) }
 {
@@ -50,6 +52,7 @@ fn escaped_length(text: &[u8], value: bool) -> u64
     total
 }
 
+/// The length of a chunk.
 fn chunk_length(chunk: Chunk) -> u64
     ensures { result ≡ length_told (chunk_bytes chunk.entry) }
 {
@@ -64,6 +67,7 @@ fn chunk_length(chunk: Chunk) -> u64
     }
 }
 
+/// The length of chunks one after another.
 fn chunks_length(chunks: &[Chunk]) -> u64
     ensures { result ≡ length_told (flat_map chunk_bytes chunks.now) }
 {
@@ -74,6 +78,7 @@ fn chunks_length(chunks: &[Chunk]) -> u64
     total
 }
 
+/// The length of a tag's attributes.
 fn attributes_length(attrs: &[Attr]) -> u64
     ensures { result ≡ length_told (flat_map (λ attr. attribute_bytes (attribute_of attr)) attrs.now) }
 {
@@ -84,6 +89,7 @@ fn attributes_length(attrs: &[Attr]) -> u64
     total
 }
 
+/// The length of an opening tag.
 fn tag_length(tag: &Tag, attrs: &[Attr]) -> u64
     ensures { result ≡ length_told (begin_bytes tag.now attrs.now) }
 {
@@ -92,6 +98,7 @@ fn tag_length(tag: &Tag, attrs: &[Attr]) -> u64
     sum(sum(front, given), 1)
 }
 
+/// The length of a piece, where so many elements around it are hidden.
 fn piece_length(hidden: usize, piece: &Piece) -> u64
     ensures { result ≡ length_told (piece_bytes hidden piece.now) }
 {
@@ -103,6 +110,7 @@ fn piece_length(hidden: usize, piece: &Piece) -> u64
     }
 }
 
+/// The length of pieces one after another.
 fn pieces_length(pieces: &[Piece]) -> u64
     ensures { result ≡ length_told (pieces_bytes 0 pieces.now) }
 {

@@ -4,6 +4,7 @@ ghost use Rattle.xml_trees.specs.Trees.{Whole, Within, Nothing, built, built_and
 
 use crate::{PageFault, page_length, write_page};
 use std::alloc::{AllocError, Global};
+use std::str;
 use table_rows::Text;
 use ur_outside::MemSink;
 use xml_trees::{Attr, Attrs, Page, Tag};
@@ -72,67 +73,124 @@ fn tag_text(
     }
 }
 
-#[test]
-fn escapes(rt: HostRuntime) -> Result<(), AllocError> {
-    let alloc = rt.alloc();
-    let title = Attr::Title(Text::of(alloc, "<b>&\"")?);
-    let text = tag_text(alloc, Tag::P, Some(title), "<b>&\"")?;
-    let want = b"<p title=\"&lt;b&gt;&amp;&quot;\">&lt;b&gt;&amp;\"</p>";
-    assert!(rt; text.as_slice() == want.as_slice());
-    let text = tag_text(alloc, Tag::H1, None, "\u{e4}\u{4e16} '&amp;'")?;
-    assert!(rt; text.as_slice() == "<h1>\u{e4}\u{4e16} '&amp;amp;'</h1>".as_bytes());
-    Ok(())
+/// An element with at most one attribute and a text in it, and what it is written as.
+#[derive(Drop)]
+struct Case {
+    tag: Tag,
+    attr: Option<Attr>,
+    inside: &'static str,
+    want: &'static str,
+}
+
+/// Each kind of tag and attribute, with what has to be escaped.
+fn cases(alloc: Global) -> Result<Vec<Case>, AllocError> {
+    let mut all = Vec::new(alloc);
+    all.push(Case {
+        tag: Tag::P,
+        attr: Some(Attr::Title(Text::of(alloc, "<b>&\"")?)),
+        inside: "<b>&\"",
+        want: "<p title=\"&lt;b&gt;&amp;&quot;\">&lt;b&gt;&amp;\"</p>",
+    })?;
+    all.push(Case {
+        tag: Tag::H1,
+        attr: None,
+        inside: "\u{e4}\u{4e16} '&amp;'",
+        want: "<h1>\u{e4}\u{4e16} '&amp;amp;'</h1>",
+    })?;
+    all.push(Case {
+        tag: Tag::Br,
+        attr: None,
+        inside: "lost",
+        want: "<br>",
+    })?;
+    all.push(Case {
+        tag: Tag::Hr,
+        attr: None,
+        inside: "",
+        want: "<hr>",
+    })?;
+    all.push(Case {
+        tag: Tag::Img,
+        attr: Some(Attr::Src(Text::of(alloc, "/a.png?b&c")?)),
+        inside: "",
+        want: "<img src=\"/a.png?b&amp;c\">",
+    })?;
+    all.push(Case {
+        tag: Tag::Img,
+        attr: Some(Attr::Alt(Text::of(alloc, "")?)),
+        inside: "",
+        want: "<img alt=\"\">",
+    })?;
+    all.push(Case {
+        tag: Tag::A,
+        attr: Some(Attr::Link(Text::of(alloc, "/Main/page/1")?)),
+        inside: "go",
+        want: "<a href=\"/Main/page/1\">go</a>",
+    })?;
+    all.push(Case {
+        tag: Tag::A,
+        attr: Some(Attr::Href(Text::of(alloc, "http://a.b/?c=1&d")?)),
+        inside: "",
+        want: "<a href=\"http://a.b/?c=1&amp;d\"></a>",
+    })?;
+    all.push(Case {
+        tag: Tag::Table,
+        attr: Some(Attr::Border(-1)),
+        inside: "",
+        want: "<table border=\"-1\"></table>",
+    })?;
+    all.push(Case {
+        tag: Tag::Textbox(Text::of(alloc, "a")?),
+        attr: Some(Attr::Size(i64::MIN)),
+        inside: "",
+        want: "<input type=\"text\" name=\"a\" size=\"-9223372036854775808\">",
+    })?;
+    all.push(Case {
+        tag: Tag::Form,
+        attr: None,
+        inside: "",
+        want: "<form method=\"post\"></form>",
+    })?;
+    all.push(Case {
+        tag: Tag::Password(Text::of(alloc, "p")?),
+        attr: Some(Attr::Value(Text::of(alloc, "x")?)),
+        inside: "",
+        want: "<input type=\"password\" name=\"p\" value=\"x\">",
+    })?;
+    all.push(Case {
+        tag: Tag::Hidden(Text::of(alloc, "h")?),
+        attr: None,
+        inside: "",
+        want: "<input type=\"hidden\" name=\"h\">",
+    })?;
+    all.push(Case {
+        tag: Tag::Checkbox(Text::of(alloc, "c'")?),
+        attr: None,
+        inside: "",
+        want: "<input type=\"checkbox\" name=\"c'\">",
+    })?;
+    all.push(Case {
+        tag: Tag::Submit,
+        attr: Some(Attr::Action(Text::of(alloc, "/Main/act")?)),
+        inside: "",
+        want: "<input type=\"submit\" formaction=\"/Main/act\">",
+    })?;
+    Ok(all)
 }
 
 #[test]
-fn void_tags(rt: HostRuntime) -> Result<(), AllocError> {
+fn elements(rt: HostRuntime) -> Result<(), AllocError> {
     let alloc = rt.alloc();
-    assert!(rt; tag_text(alloc, Tag::Br, None, "lost")?.as_slice() == b"<br>".as_slice());
-    assert!(rt; tag_text(alloc, Tag::Hr, None, "")?.as_slice() == b"<hr>".as_slice());
-    let source = Attr::Src(Text::of(alloc, "/a.png?b&c")?);
-    let text = tag_text(alloc, Tag::Img, Some(source), "")?;
-    assert!(rt; text.as_slice() == b"<img src=\"/a.png?b&amp;c\">".as_slice());
-    let alternative = Attr::Alt(Text::of(alloc, "")?);
-    let text = tag_text(alloc, Tag::Img, Some(alternative), "")?;
-    assert!(rt; text.as_slice() == b"<img alt=\"\">".as_slice());
-    Ok(())
-}
-
-#[test]
-fn links_and_numbers(rt: HostRuntime) -> Result<(), AllocError> {
-    let alloc = rt.alloc();
-    let link = Attr::Link(Text::of(alloc, "/Main/page/1")?);
-    let text = tag_text(alloc, Tag::A, Some(link), "go")?;
-    assert!(rt; text.as_slice() == b"<a href=\"/Main/page/1\">go</a>".as_slice());
-    let address = Attr::Href(Text::of(alloc, "http://a.b/?c=1&d")?);
-    let text = tag_text(alloc, Tag::A, Some(address), "")?;
-    assert!(rt; text.as_slice() == b"<a href=\"http://a.b/?c=1&amp;d\"></a>".as_slice());
-    let text = tag_text(alloc, Tag::Table, Some(Attr::Border(-1)), "")?;
-    assert!(rt; text.as_slice() == b"<table border=\"-1\"></table>".as_slice());
-    let box_of = Tag::Textbox(Text::of(alloc, "a")?);
-    let text = tag_text(alloc, box_of, Some(Attr::Size(i64::MIN)), "")?;
-    let want = b"<input type=\"text\" name=\"a\" size=\"-9223372036854775808\">";
-    assert!(rt; text.as_slice() == want.as_slice());
-    Ok(())
-}
-
-#[test]
-fn forms(rt: HostRuntime) -> Result<(), AllocError> {
-    let alloc = rt.alloc();
-    let text = tag_text(alloc, Tag::Form, None, "")?;
-    assert!(rt; text.as_slice() == b"<form method=\"post\"></form>".as_slice());
-    let value = Attr::Value(Text::of(alloc, "x")?);
-    let text = tag_text(alloc, Tag::Password(Text::of(alloc, "p")?), Some(value), "")?;
-    let want = b"<input type=\"password\" name=\"p\" value=\"x\">";
-    assert!(rt; text.as_slice() == want.as_slice());
-    let text = tag_text(alloc, Tag::Hidden(Text::of(alloc, "h")?), None, "")?;
-    assert!(rt; text.as_slice() == b"<input type=\"hidden\" name=\"h\">".as_slice());
-    let text = tag_text(alloc, Tag::Checkbox(Text::of(alloc, "c'")?), None, "")?;
-    assert!(rt; text.as_slice() == b"<input type=\"checkbox\" name=\"c'\">".as_slice());
-    let action = Attr::Action(Text::of(alloc, "/Main/act")?);
-    let text = tag_text(alloc, Tag::Submit, Some(action), "")?;
-    let want = b"<input type=\"submit\" formaction=\"/Main/act\">";
-    assert!(rt; text.as_slice() == want.as_slice());
+    for case in cases(alloc)? {
+        let Case {
+            tag,
+            attr,
+            inside,
+            want,
+        } = case;
+        let text = tag_text(alloc, tag, attr, inside)?;
+        assert_eq!(rt; str::from_utf8(text.as_slice()).unwrap_or("no text"), want);
+    }
     Ok(())
 }
 
@@ -163,5 +221,25 @@ fn failing_sinks(rt: HostRuntime) -> Result<(), AllocError> {
     assert!(rt; write_page(&page, &mut slow).is_ok());
     assert_eq!(rt; slow.written().len(), 20_028);
     assert_eq!(rt; page_length(&page), 20_028);
+    Ok(())
+}
+
+/// Pages at the length that a page may have, and past it: the length of their text, and what `page_length` tells.
+const AT_THE_LIMIT: [(usize, u64); 3] = [
+    (16_777_216, 16_777_216),
+    (16_777_217, 16_777_217),
+    (16_777_218, 16_777_217),
+];
+
+#[test]
+fn longest_pages(rt: HostRuntime) -> Result<(), AllocError> {
+    let alloc = rt.alloc();
+    for (length, told) in AT_THE_LIMIT {
+        let frame = 28;
+        let inside = "a".repeat(alloc, length.saturating_sub(frame))?;
+        let (text, found) = shown(alloc, &words(alloc, inside.as_str())?)?;
+        assert_eq!(rt; text.len(), length);
+        assert_eq!(rt; found, told);
+    }
     Ok(())
 }

@@ -19,6 +19,7 @@ use ur_outside::Sink;
 use xml_trees::laws::pieces_are_pages;
 use xml_trees::{Attr, Page, Piece, Tag};
 
+/// Puts out a chunk.
 fn put_chunk<K: Sink>(held: &mut Held, sink: &mut K, chunk: Chunk) -> Result<(), PageFault>
     ensures { Puts result (K.wrote sink.old) (K.wrote sink.new) held.old.items held.new.items
         (K.faults sink.old) (K.faults sink.new) (chunk_bytes chunk.entry) }
@@ -34,6 +35,7 @@ fn put_chunk<K: Sink>(held: &mut Held, sink: &mut K, chunk: Chunk) -> Result<(),
     }
 }
 
+/// Puts out chunks one after another.
 fn put_chunks<K: Sink>(held: &mut Held, sink: &mut K, chunks: &[Chunk]) -> Result<(), PageFault>
     ensures { Puts result (K.wrote sink.old) (K.wrote sink.new) held.old.items held.new.items
         (K.faults sink.old) (K.faults sink.new) (flat_map chunk_bytes chunks.now) }
@@ -44,6 +46,7 @@ fn put_chunks<K: Sink>(held: &mut Held, sink: &mut K, chunks: &[Chunk]) -> Resul
     Ok(())
 }
 
+/// Puts out a tag's attributes.
 fn put_attributes<K: Sink>(held: &mut Held, sink: &mut K, attrs: &[Attr]) -> Result<(), PageFault>
     ensures { Puts result (K.wrote sink.old) (K.wrote sink.new) held.old.items held.new.items
         (K.faults sink.old) (K.faults sink.new) (flat_map (λ attr. attribute_bytes (attribute_of attr)) attrs.now) }
@@ -54,6 +57,7 @@ fn put_attributes<K: Sink>(held: &mut Held, sink: &mut K, attrs: &[Attr]) -> Res
     Ok(())
 }
 
+/// Puts out an opening tag.
 fn put_tag<K: Sink>(
     held: &mut Held,
     sink: &mut K,
@@ -86,6 +90,7 @@ fn put_piece<K: Sink>(
     }
 }
 
+/// Puts out pieces one after another.
 fn put_pieces<K: Sink>(held: &mut Held, sink: &mut K, pieces: &[Piece]) -> Result<(), PageFault>
     ensures { Puts result (K.wrote sink.old) (K.wrote sink.new) held.old.items held.new.items
         (K.faults sink.old) (K.faults sink.new) (pieces_bytes 0 pieces.now) }
@@ -98,6 +103,7 @@ fn put_pieces<K: Sink>(held: &mut Held, sink: &mut K, pieces: &[Piece]) -> Resul
     Ok(())
 }
 
+/// Puts out a page: its frame, and its pieces in it.
 fn put_page<K: Sink>(held: &mut Held, sink: &mut K, pieces: &[Piece]) -> Result<(), PageFault>
     ensures puts { Puts result (K.wrote sink.old) (K.wrote sink.new) held.old.items held.new.items
         (K.faults sink.old) (K.faults sink.new) (page_bytes pieces.now) }
@@ -113,8 +119,10 @@ fn put_page<K: Sink>(held: &mut Held, sink: &mut K, pieces: &[Piece]) -> Result<
 /// the text is written.
 pub fn write_page<K: Sink>(page: &Page, sink: &mut K) -> Result<(), PageFault>
     requires { IsWhole (built page.now) }
-    ensures page { OnOk result (WritesPage (K.wrote sink.old) (K.wrote sink.new) (written (trees_of (built page.now)))) }
-    ensures front { OnErr result (WritesFront (K.wrote sink.old) (K.wrote sink.new) (written (trees_of (built page.now)))) }
+    ensures page { OnOk result
+        (WritesPage (K.wrote sink.old) (K.wrote sink.new) (written (trees_of (built page.now)))) }
+    ensures front { OnErr result
+        (WritesFront (K.wrote sink.old) (K.wrote sink.new) (written (trees_of (built page.now)))) }
     ensures later { K.faults sink.old ≤ K.faults sink.new }
     ensures failed { OnErr result (Rose (K.faults sink.old) (K.faults sink.new)) }
 {

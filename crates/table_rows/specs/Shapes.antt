@@ -66,16 +66,31 @@ mutual
     unit_has : {D : List Cases} → HasShape D a_unit unit
     true_has : {D : List Cases} → HasShape D a_truth (bare (codes "True"))
     false_has : {D : List Cases} → HasShape D a_truth (bare (codes "False"))
-    record_has : {D : List Cases} {ps : Pts} {ws : Wrs} → HaveParts D ps ws → HasShape D (a_record ps) (rec_of ws)
-    bare_has : {D : List Cases} {d : ℕ} {ss : Shs} {cs : Cases} {n : List ℕ} → slice_get D d ≡ Some cs → Contains cs (n, None) → HasShape D (a_data d ss) (bare n)
-    tagged_has : {D : List Cases} {d : ℕ} {ss : Shs} {cs : Cases} {n : List ℕ} {s : Sh} {w : Wr} → slice_get D d ≡ Some cs → Contains cs (n, Some s) → HasShape D (at_arguments ss s) w → HasShape D (a_data d ss) (tagged n w)
+    record_has : {D : List Cases} {ps : Pts} {ws : Wrs}
+        → HaveParts D ps ws
+        → HasShape D (a_record ps) (rec_of ws)
+    bare_has : {D : List Cases} {d : ℕ} {ss : Shs} {cs : Cases} {n : List ℕ}
+        → slice_get D d ≡ Some cs
+        → Contains cs (n, None)
+        → HasShape D (a_data d ss) (bare n)
+    tagged_has : {D : List Cases} {d : ℕ} {ss : Shs} {cs : Cases} {n : List ℕ} {s : Sh} {w : Wr}
+        → slice_get D d ≡ Some cs
+        → Contains cs (n, Some s)
+        → HasShape D (at_arguments ss s) w
+        → HasShape D (a_data d ss) (tagged n w)
 
   -- the values are those of the fields, in order
   pub data HaveParts : List Cases → Pts → Wrs → Type 0 where
     no_parts_have : {D : List Cases} → HaveParts D no_parts no_wires
-    part_has : {D : List Cases} {n : List ℕ} {s : Sh} {ps : Pts} {w : Wr} {ws : Wrs} → HasShape D s w → HaveParts D ps ws → HaveParts D (part n s ps) (wire w ws)
+    part_has : {D : List Cases} {n : List ℕ} {s : Sh} {ps : Pts} {w : Wr} {ws : Wrs}
+        → HasShape D s w
+        → HaveParts D ps ws
+        → HaveParts D (part n s ps) (wire w ws)
 
 -- each value has its argument's shape
 pub data HaveShapes : List Cases → Shs → Wrs → Type 0 where
   no_shapes_have : {D : List Cases} → HaveShapes D no_shapes no_wires
-  shape_has : {D : List Cases} {s : Sh} {ss : Shs} {w : Wr} {ws : Wrs} → HasShape D s w → HaveShapes D ss ws → HaveShapes D (shape s ss) (wire w ws)
+  shape_has : {D : List Cases} {s : Sh} {ss : Shs} {w : Wr} {ws : Wrs}
+      → HasShape D s w
+      → HaveShapes D ss ws
+      → HaveShapes D (shape s ss) (wire w ws)

@@ -4,6 +4,8 @@
 
 pub mod bytes;
 pub mod shape;
+#[cfg(test)]
+mod tests;
 pub mod text;
 pub mod texts;
 pub mod wire;

@@ -43,7 +43,8 @@ impl Wires {
 
     /// Adds a value at the end. An `Err` changes nothing.
     pub fn push(&mut self, wire: Wire) -> Result<(), AllocError>
-        ensures grown { OnOk result (wire_list (wires_tree self.new) ≡ wire_list (wires_tree self.old) ++ wire_tree wire ∷ []) }
+        ensures grown { OnOk result (wire_list (wires_tree self.new)
+            ≡ wire_list (wires_tree self.old) ++ wire_tree wire ∷ []) }
         ensures kept { OnErr result (wire_list (wires_tree self.new) ≡ wire_list (wires_tree self.old)) }
     {
         Ok(self.items.push(wire)?)
