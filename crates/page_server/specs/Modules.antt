@@ -64,7 +64,8 @@ HasNoPage ts fault = IsNotSmall ts × IsOtherForm ts fault
 
 -- The module has tokens, and they have no page for this reason.
 abbrev pub HasNoForm : List ℕ → ModuleFault → Type 0
-HasNoForm bytes fault = (tokens : List Token) × Lexes bytes tokens at_end × HasNoPage (record { items = tokens; end = length bytes }) fault
+HasNoForm bytes fault = (tokens : List Token) × Lexes bytes tokens at_end
+    × HasNoPage (record { items = tokens; end = length bytes }) fault
 
 -- Why a module has no page; want of memory says nothing of it.
 abbrev pub IsRefused : List ℕ → ModuleFault → Type 0
@@ -81,12 +82,15 @@ IsRefused bytes Memory = Unit {0}
 
 -- A module that has a page is refused for no reason but want of memory.
 abbrev pub ModulesHaveOneAnswer : Type 0
-ModulesHaveOneAnswer = (bytes : List ℕ) (trees : Trees) (fault : ModuleFault) → HasPage bytes trees → IsRefused bytes fault → fault ≡ Memory
+ModulesHaveOneAnswer = (bytes : List ℕ) (trees : Trees) (fault : ModuleFault) → HasPage bytes trees
+    → IsRefused bytes fault → fault ≡ Memory
 
 -- A module has one page at most.
 abbrev pub ModulesHaveOnePage : Type 0
-ModulesHaveOnePage = (bytes : List ℕ) (trees others : Trees) → HasPage bytes trees → HasPage bytes others → trees ≡ others
+ModulesHaveOnePage = (bytes : List ℕ) (trees others : Trees) → HasPage bytes trees → HasPage bytes others
+    → trees ≡ others
 
 -- A module is refused for one reason, at one byte; want of memory says nothing of it.
 abbrev pub ModulesHaveOneRefusal : Type 0
-ModulesHaveOneRefusal = (bytes : List ℕ) (fault other : ModuleFault) → IsRefused bytes fault → IsRefused bytes other → (fault ≡ Memory) ⊎ (other ≡ Memory) ⊎ (fault ≡ other)
+ModulesHaveOneRefusal = (bytes : List ℕ) (fault other : ModuleFault) → IsRefused bytes fault → IsRefused bytes other
+    → (fault ≡ Memory) ⊎ (other ≡ Memory) ⊎ (fault ≡ other)

@@ -34,7 +34,8 @@ IsAnswer input bytes =
 
 -- The output grew by a front of the answer to the input.
 abbrev pub FrontIsWritten : Option (List ℕ) → Option (List ℕ) → Option (List ℕ) → Type 0
-FrontIsWritten before old new = IfSome before (λ input. (answer : List ℕ) × IsAnswer input answer × AppendsFront old new answer)
+FrontIsWritten before old new = IfSome before (λ input. (answer : List ℕ) × IsAnswer input answer
+    × AppendsFront old new answer)
 
 -- the input is told, and is a module that has a page
 abbrev pub IsToldPage : Option (List ℕ) → Type 0

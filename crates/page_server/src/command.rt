@@ -1,5 +1,5 @@
 //! The top call.
-ghost use Rattle.std.specs.Prelude.{◌≡◌, ◌≤◌, ◌<◌, ◌↔◌, ℕ, List, length, map, string_bytes, IfOk, OnOk, OnErr, IsErrOf, IsTrue, ◌⊎◌, Some};
+ghost use Rattle.std.specs.Prelude.{◌≡◌, ◌≤◌, ◌<◌, ◌↔◌, ◌∷◌, [], ℕ, List, length, map, string_bytes, IfOk, OnOk, OnErr, IsErrOf, IsTrue, ◌⊎◌, Some};
 ghost use Rattle.std.specs.Io.KnownBytes.{Appends, Keeps};
 ghost use Rattle.xml_trees.specs.Trees.{Trees, IsWhole, built, trees_of};
 ghost use Rattle.xml_trees.specs.Written.{written};
@@ -29,11 +29,12 @@ const USAGE: &[u8] =
 /// One more than the most bytes that a module has, so that a longer one shows.
 const ENOUGH: usize = LONGEST + 1;
 
-fn is_page_command(words: &[String]) -> bool
-    ensures { IsTrue result ↔ IsPageCommand (map string_bytes words.now) }
+/// Whether the words are this one alone.
+pub fn is_only_word(words: &[String], wanted: &str) -> bool
+    ensures { IsTrue result ↔ (map string_bytes words.now ≡ wanted.now ∷ []) }
 {
     match words {
-        [word] => word.as_str() == "page",
+        [word] => word.as_str() == wanted,
         _ => false,
     }
 }
@@ -55,8 +56,10 @@ fn end_with<O: Sink>(output: &mut O, piece: &[u8], status: u8) -> Ended
 /// Ends with the page.
 fn end_with_page<O: Sink>(output: &mut O, page: &Page) -> Ended
     requires { IsWhole (built page.now) }
-    ensures written { result.status ≡ 0 → WritesPage (O.wrote output.old) (O.wrote output.new) (written (trees_of (built page.now))) }
-    ensures front { result.status ≡ 4 → WritesFront (O.wrote output.old) (O.wrote output.new) (written (trees_of (built page.now))) }
+    ensures written { result.status ≡ 0
+        → WritesPage (O.wrote output.old) (O.wrote output.new) (written (trees_of (built page.now))) }
+    ensures front { result.status ≡ 4
+        → WritesFront (O.wrote output.old) (O.wrote output.new) (written (trees_of (built page.now))) }
     ensures other { (result.status ≡ 0) ⊎ (result.status ≡ 4) }
     ensures failed { result.status ≡ 4 → Rose (O.faults output.old) (O.faults output.new) }
 {
@@ -68,8 +71,10 @@ fn end_with_page<O: Sink>(output: &mut O, page: &Page) -> Ended
 
 /// Ends with the line of the refusal.
 fn end_refused<O: Sink>(alloc: Global, output: &mut O, fault: &ModuleFault) -> Ended
-    ensures written { result.status ≡ 1 → (line : List ℕ) × (line_of fault.now ≡ Some line) × Appends (O.wrote output.old) (O.wrote output.new) line }
-    ensures front { result.status ≡ 4 → (line : List ℕ) × (line_of fault.now ≡ Some line) × AppendsFront (O.wrote output.old) (O.wrote output.new) line }
+    ensures written { result.status ≡ 1 → (line : List ℕ) × (line_of fault.now ≡ Some line)
+        × Appends (O.wrote output.old) (O.wrote output.new) line }
+    ensures front { result.status ≡ 4 → (line : List ℕ) × (line_of fault.now ≡ Some line)
+        × AppendsFront (O.wrote output.old) (O.wrote output.new) line }
     ensures kept { result.status ≡ 5 → Keeps (O.wrote output.old) (O.wrote output.new) }
     ensures other { (result.status ≡ 1) ⊎ (result.status ≡ 4) ⊎ (result.status ≡ 5) }
     ensures failed { result.status ≡ 4 → Rose (O.faults output.old) (O.faults output.new) }
@@ -83,8 +88,10 @@ fn end_refused<O: Sink>(alloc: Global, output: &mut O, fault: &ModuleFault) -> E
 /// The command `page`.
 fn end_page<I: Source, O: Sink>(alloc: Global, input: &mut I, output: &mut O) -> Ended
     ensures range { (result.status ≤ 5) × (result.status ≡ 2 → ⊥) }
-    ensures page { result.status ≡ 0 → PageIsWritten (I.left input.old) (I.left input.new) (O.wrote output.old) (O.wrote output.new) }
-    ensures refused { result.status ≡ 1 → RefusalIsWritten (I.left input.old) (O.wrote output.old) (O.wrote output.new) }
+    ensures page { result.status ≡ 0
+        → PageIsWritten (I.left input.old) (I.left input.new) (O.wrote output.old) (O.wrote output.new) }
+    ensures refused { result.status ≡ 1
+        → RefusalIsWritten (I.left input.old) (O.wrote output.old) (O.wrote output.new) }
     ensures complete { IsToldPage (I.left input.old) → result.status ≡ 1 → ⊥ }
     ensures kept { (result.status ≡ 3) ⊎ (result.status ≡ 5) → Keeps (O.wrote output.old) (O.wrote output.new) }
     ensures front { result.status ≡ 4 → FrontIsWritten (I.left input.old) (O.wrote output.old) (O.wrote output.new) }
@@ -126,7 +133,8 @@ pub fn top<I: Source, O: Sink>(alloc: Global, words: &[String], line: &mut Joine
     ensures write_failed { result.status ≡ 4 → Rose (O.faults line.old.output) (O.faults line.new.output) }
 
     // What a failure leaves: nothing was written, or a front of the answer.
-    ensures kept { (result.status ≡ 3) ⊎ (result.status ≡ 5) → Keeps (O.wrote line.old.output) (O.wrote line.new.output) }
+    ensures kept { (result.status ≡ 3) ⊎ (result.status ≡ 5)
+        → Keeps (O.wrote line.old.output) (O.wrote line.new.output) }
     ensures front { result.status ≡ 4 → IsPageCommand (map string_bytes words.now)
         → FrontIsWritten (I.left line.old.input) (O.wrote line.old.output) (O.wrote line.new.output) }
     ensures usage_front { result.status ≡ 4 → (IsPageCommand (map string_bytes words.now) → ⊥)
@@ -138,7 +146,7 @@ pub fn top<I: Source, O: Sink>(alloc: Global, words: &[String], line: &mut Joine
         → (Rose (O.faults line.old.output) (O.faults line.new.output) → ⊥)
         → (result.status ≡ 0) ⊎ (result.status ≡ 5) }
 {
-    if is_page_command(words) {
+    if is_only_word(words, "page") {
         end_page(alloc, &mut line.input, &mut line.output)
     } else {
         end_with(&mut line.output, USAGE, 2)

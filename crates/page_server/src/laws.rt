@@ -4,8 +4,8 @@ ghost use Rattle.page_server.specs.Modules.{ModulesHaveOneAnswer, ModulesHaveOne
 use ur_lexer::laws::texts_have_one_reading;
 use ur_parser::laws::{modules_are_not_refused, modules_have_one_fault, small_modules_are_unique};
 
-/// A module that has a page is refused for no reason but want of memory. So each status of the top call comes exactly by
-/// its cause.
+/// A module that has a page is refused for no reason but want of memory. So each status of the top call comes exactly
+/// by its cause.
 pub fn modules_have_one_answer()
     ensures { ModulesHaveOneAnswer }
 {

@@ -8,6 +8,6 @@ pub mod refusal;
 #[cfg(test)]
 mod tests;
 
-pub use command::{Ended, top};
+pub use command::{Ended, is_only_word, top};
 pub use module::page_of;
 pub use refusal::ModuleFault;

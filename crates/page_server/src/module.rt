@@ -28,14 +28,16 @@ fn unbuilt(alloc: Global, tokens: &Tokens) -> ModuleFault
     }
 }
 
-/// The page of a module's tokens. Those of the small form are those of a module, so the grammar is asked only where they
-/// are of another form.
+/// The page of a module's tokens. Those of the small form are those of a module, so the grammar is asked only where
+/// they are of another form.
 fn page_of_tokens(alloc: Global, tokens: &Tokens) -> Result<Page, ModuleFault>
     requires { length tokens.now.items < 2 ^ 32 }
     ensures short { OnOk result (tokens.now.end ≤ longest_small) }
-    ensures page { IfOk result (λ page. (m : Module) × IsSmall tokens.now.items m × (built page ≡ Whole (page_tree m))) }
+    ensures page { IfOk result (λ page. (m : Module) × IsSmall tokens.now.items m
+        × (built page ≡ Whole (page_tree m))) }
     ensures refused { IfErr result (HasNoPage tokens.now) }
-    ensures complete { tokens.now.end ≤ longest_small → (m : Module) → IsSmall tokens.now.items m → IsOkUnless result ModuleFault.Memory }
+    ensures complete { tokens.now.end ≤ longest_small → (m : Module) → IsSmall tokens.now.items m
+        → IsOkUnless result ModuleFault.Memory }
 {
     match read_small(alloc, tokens) {
         Ok(small) => Ok(small.page),
