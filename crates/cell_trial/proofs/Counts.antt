@@ -1,8 +1,8 @@
--- What a closed cell's counter has of each worker.
-use Rattle.std.proofs.Common.{◌≡◌, ◌∙◌, ℕ, List, [], ◌∷◌, ◌++◌, length, map, All, Option, Some, None, ap, subst, sym}
+-- For `run`: what a closed cell's counter has of each worker.
+use Rattle.std.proofs.Common.{◌≡◌, ◌∙◌, ℕ, suc, ◌+◌, ◌≤◌, ◌<◌, List, [], ◌∷◌, ◌++◌, length, map, sum_by, All, Option, Some, None, ap, subst, sym, refl, arith}
 use Rattle.std.proofs.lemmas.List.{map-append}
 use Rattle.std.proofs.lemmas.List.Elements.{All-map}
-use Rattle.commit_cell.specs.History.{of_number, CountsFrom}
+use Rattle.commit_cell.specs.History.{of_number, CountsFrom, times}
 use Rattle.commit_cell.specs.Rule.{from}
 use Rattle.cell_trial.specs.declared.counter.Counter.{Counter}
 use Rattle.cell_trial.specs.declared.counter.Entry.{Entry}
@@ -30,3 +30,31 @@ stands_alone None first x log s is none = cc
 stands_alone (Some o) first x log s is none =
     let same : o ≡ first = cc in
     s.1 ∙ ap (λ (y : Counter). y.entries.items ++ log) same ∙ ap (λ (es : List Entry). es ++ log) none
+
+-- a counter that began at 0 with no entry has the sum of its entries
+pub adds_up : (o : Option Counter) (first x : Counter) (log : List Entry) → from Stands o log x → o ≡ Some first → first.total ≡ 0 → first.entries.items ≡ []
+    → x.total ≡ sum_by (λ (e : Entry). e.amount) x.entries.items
+adds_up None first x log s is zeroed none = cc
+adds_up (Some o) first x log s is zeroed none =
+    let same : o ≡ first = cc in
+    let items : x.entries.items ≡ log = stands_alone (Some o) first x log s is none in
+    let start : o.total ≡ 0 = ap (λ (y : Counter). y.total) same ∙ zeroed in
+    let sums : sum_by (λ (e : Entry). e.amount) x.entries.items ≡ sum_by (λ (e : Entry). e.amount) log = ap (sum_by (λ (e : Entry). e.amount)) items in
+    omega (arith, s.0, start, sums)
+
+-- what is told of the gathered ones has their numbers
+pub all_differ : (gs : List (ℕ × List Entry)) (made : List (ℕ × ℕ)) → made ≡ map counted gs → ((n : ℕ) → times n (map (λ (g : ℕ × List Entry). g.0) gs) ≤ 1)
+    → (n : ℕ) → times n (map (λ (m : ℕ × ℕ). m.0) made) ≤ 1
+all_differ gs made is once n = subst (λ (ns : List ℕ). times n ns ≤ 1) (sym (ap (map (λ (m : ℕ × ℕ). m.0)) is ∙ firsts gs)) (once n)
+  where
+    firsts : (hs : List (ℕ × List Entry)) → map (λ (m : ℕ × ℕ). m.0) (map counted hs) ≡ map (λ (g : ℕ × List Entry). g.0) hs
+    firsts [] = refl
+    firsts (h ∷ hs) = ap (λ (ns : List ℕ). h.0 ∷ ns) (firsts hs)
+
+-- what holds of all of a list holds of its last
+pub last_holds : {A : Type 0} (P : A → Type 0) (olds news : List A) (w : A) → olds ≡ news ++ w ∷ [] → All P olds → P w
+last_holds {A} P olds news w is all = last news (subst (All P) is all)
+  where
+    last : (xs : List A) → All P (xs ++ w ∷ []) → P w
+    last [] h = h 0 w (omega arith)
+    last (x ∷ xs) h = last xs (λ k d lt. h (suc k) d (omega arith))

@@ -7,5 +7,6 @@ use Rattle.cell_trial.specs.declared.shelf.Record.{Record}
 use Rattle.cell_trial.specs.declared.shelf_workers.ShelfWorker.{ShelfWorker}
 
 -- the worker's pass is free and of the cell
-abbrev pub IsReady : {F : Type 0} {G : Ghosts (Shelf F) Record} → Cell (Shelf F) Record → ShelfWorker F Record G → Type 0
+abbrev pub IsReady : {F : Type 0} {G : Ghosts (Shelf F) Record} → Cell (Shelf F) Record → ShelfWorker F Record G
+    → Type 0
 IsReady c w = IsFreeOf c w.pass

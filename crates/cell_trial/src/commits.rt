@@ -1,4 +1,4 @@
-// One commit: take the turn, and give it back with an entry where there is room.
+//! One commit: take the turn, and give it back with an entry where there is room.
 ghost use Rattle.std.specs.Prelude.{◌≡◌, ◌++◌, ◌∷◌, [], MatchBool, length};
 ghost use Rattle.commit_cell.specs.History.{StartsWith};
 ghost use Rattle.commit_cell.specs.Words.{IsFreeOf, number, seen, mine, gathered, opening};
@@ -12,8 +12,15 @@ pub fn commit<R: Wait>(rt: &R, cell: &Cell<Counter>, pass: &mut Pass<Counter>, a
     requires { IsFreeOf cell.now pass.old }
     ensures free { IsFreeOf cell.now pass.new }
     ensures seen { StartsWith (seen pass.new) (seen pass.old) }
-    ensures same { (number pass.new ≡ number pass.old) × (gathered pass.new ≡ gathered pass.old) × (opening pass.new ≡ opening pass.old) }
-    ensures mine { MatchBool result (mine pass.new ≡ mine pass.old ++ record { number = number pass.old; serial = length (mine pass.old); amount = amount } ∷ []) (mine pass.new ≡ mine pass.old) }
+    ensures same { (number pass.new ≡ number pass.old) × (gathered pass.new ≡ gathered pass.old)
+        × (opening pass.new ≡ opening pass.old) }
+    ensures mine { MatchBool result (mine pass.new
+        ≡ mine pass.old ++ record {
+          number = number pass.old;
+          serial = length
+              (mine pass.old);
+          amount = amount;
+        } ∷ []) (mine pass.new ≡ mine pass.old) }
 {
     let mut turn = cell.take(rt, pass);
     let has_room = turn.value().has_room(amount);

@@ -1,4 +1,4 @@
-// A number that entries add to.
+//! A number that entries add to.
 ghost use Rattle.std.specs.Prelude.{◌≡◌, ◌+◌, ◌<◌, ◌≤◌, ◌^◌, ◌↔◌, ◌++◌, ◌∷◌, [], OnOk, OnErr, IsTrue};
 
 use commit_cell::Replays;
@@ -33,6 +33,7 @@ impl Replays for Counter {
 }
 
 impl Counter {
+    /// No entry yet.
     pub fn new(alloc: Global) -> Counter
         ensures { (result.total ≡ 0) × (result.entries.items ≡ []) }
     {
@@ -49,11 +50,13 @@ impl Counter {
         amount <= u64::MAX - self.total
     }
 
+    /// Adds an entry. An `Err` changes nothing.
     pub fn add(&mut self, entry: Entry) -> Result<(), AllocError>
         requires { self.old.total + entry.amount < 2 ^ 64 }
         ensures total { OnOk result (self.new.total ≡ self.old.total + entry.amount) }
         ensures entries { OnOk result (self.new.entries.items ≡ self.old.entries.items ++ entry ∷ []) }
-        ensures err { OnErr result ((self.new.total ≡ self.old.total) × (self.new.entries.items ≡ self.old.entries.items)) }
+        ensures err { OnErr result ((self.new.total ≡ self.old.total)
+            × (self.new.entries.items ≡ self.old.entries.items)) }
     {
         self.entries.push(entry)?;
         self.total += entry.amount;

@@ -1,4 +1,5 @@
-//! Trials of the commit cell: workers in threads that commit to one counter, and a store that holds all that a store may.
+//! Trials of the commit cell: workers in threads that commit to one counter, and a store that holds all that a store
+//! may.
 #![tactic(auto)]
 
 mod commits;

@@ -1,4 +1,4 @@
-// A store that holds all that a store may: vectors, maps, shared code, and objects of one type with a bound.
+//! A store that holds all that a store may: vectors, maps, shared code, and objects of one type with a bound.
 ghost use Rattle.std.specs.Prelude.{ℕ, ◌≤◌};
 
 use commit_cell::Replays;
@@ -17,6 +17,7 @@ pub struct Record {
 pub trait Effect: Drop {
     ghost done: { Self → ℕ };
 
+    /// Lets the effect happen. It is never undone.
     fn happen(&mut self)
         ensures { done self.old ≤ done self.new };
 }

@@ -1,4 +1,4 @@
-// Workers at a shelf: the cell and their passes cross threads, whatever the shelf holds that may.
+//! Workers at a shelf: the cell and their passes cross threads, whatever the shelf holds that may.
 ghost use Rattle.std.specs.Prelude.{◌≡◌, ◌<◌, length, All};
 ghost use Rattle.commit_cell.specs.Words.{IsFreeOf};
 ghost use Rattle.cell_trial.specs.ShelfReady.{IsReady};
@@ -20,6 +20,7 @@ where
     pub pass: Pass<Shelf<F>>,
 }
 
+/// One turn at the shelf.
 fn commit<R: Wait, F: Effect>(
     rt: &R,
     alloc: Global,
@@ -44,6 +45,7 @@ fn commit<R: Wait, F: Effect>(
     cell.give_entry(turn, pass, &record);
 }
 
+/// One worker takes its turns.
 fn work<R: Wait, F: Effect>(
     rt: &R,
     alloc: Global,

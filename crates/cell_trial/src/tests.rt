@@ -1,4 +1,4 @@
-// Runs under threads: what no clause says is that they end, and that there is memory for all of it.
+//! Runs under threads: what no clause says is that they end, and that there is memory for all of it.
 ghost use Rattle.std.specs.Prelude.{◌≡◌};
 
 use super::*;

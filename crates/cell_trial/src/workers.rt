@@ -1,4 +1,4 @@
-// Workers, each with a pass and a number of entries to make.
+//! Workers, each with a pass and a number of entries to make.
 ghost use Rattle.std.specs.Prelude.{◌≡◌, ◌<◌, length, All};
 ghost use Rattle.cell_trial.specs.Ready.{IsReady};
 
@@ -16,6 +16,7 @@ pub struct Worker {
     pub pass: Pass<Counter>,
 }
 
+/// One worker makes its entries.
 fn work<R: Wait>(rt: &R, cell: &Cell<Counter>, worker: &mut Worker)
     requires { IsReady cell.now worker.old }
     ensures { IsReady cell.now worker.new }
