@@ -1,5 +1,5 @@
 #!/usr/bin/env python3
-"""Runs each module of a document through the built program: a block fenced as ```ur must be read, whether or not it has a page."""
+"""Runs each module of a document through the built program: a block fenced as ```ur must be read, page or not."""
 import re
 import subprocess
 import sys

@@ -1,11 +1,12 @@
 #!/usr/bin/env python3
 """Runs each row of a folder through the built program, and compares what it writes and how it ends.
 
-A row is a folder. `words` has the program's words, one a line. `input` and `output` are what it reads and what it must
-write, byte for byte. In place of either may stand `input.parts` or `output.parts`, for long texts: each line is a number
-and a JSON string, and the text is each string so many times, one after the other. No file: nothing. `status` is the exit
-status; no file: 0. With a file `input_fails` standard input is a folder, so that reading fails; with a file `output_fails`
-standard output is a device that is full, so that writing fails.
+A row is a folder. `words` has the program's words, one a line, with `\\x..` for a byte. `input` and `output` are what it reads
+and what it must write, byte for byte, and `errors` is what it must tell on standard error. In place of the first two may stand
+`input.parts` or `output.parts`, for long texts: each line is a number and a JSON string, and the text is each string so many
+times, one after the other. No file: nothing; but with no `errors` a status above 0 must tell something, and 0 nothing.
+`status` is the exit status; no file: 0. With a file `input_fails` standard input is a folder, so that reading fails; with a
+file `output_fails` standard output is a device that is full, so that writing fails.
 """
 import contextlib
 import json
@@ -29,11 +30,21 @@ def text_of(folder, name):
 
 
 def words_of(folder):
+    """The program's words, as bytes."""
     with open(f"{folder}/words", encoding="utf-8") as it:
-        return it.read().splitlines()
+        return [line.encode("utf-8").decode("unicode_escape").encode("latin-1") for line in it.read().splitlines()]
+
+
+def errors_of(folder):
+    """What standard error must tell, or None where the row doesn't say."""
+    if not os.path.isfile(f"{folder}/errors"):
+        return None
+    with open(f"{folder}/errors", "rb") as it:
+        return it.read()
 
 
 def status_of(folder):
+    """The exit status that is wanted."""
     if not os.path.isfile(f"{folder}/status"):
         return 0
     with open(f"{folder}/status", encoding="utf-8") as it:
@@ -51,16 +62,20 @@ def fault_of(program, folder):
         out = subprocess.PIPE
         if os.path.isfile(f"{folder}/output_fails"):
             out = opened.enter_context(open("/dev/full", "wb"))
-        ran = subprocess.run([program, *words_of(folder)], stdout=out, stderr=subprocess.PIPE, timeout=60, **given)
+        ran = subprocess.run([program.encode(), *words_of(folder)], stdout=out, stderr=subprocess.PIPE, timeout=60, **given)
     wrote = ran.stdout or b""
     if ran.returncode != status_of(folder):
         return f"ended with status {ran.returncode} in place of {status_of(folder)}, and wrote {wrote[:300]!r}"
     if wrote != want:
         return f"wrote {wrote[:300]!r} ({len(wrote)} bytes) in place of {want[:300]!r} ({len(want)} bytes)"
+    told = errors_of(folder)
+    if (ran.stderr != told) if told is not None else (bool(ran.stderr) != bool(ran.returncode)):
+        return f"told {ran.stderr[:300]!r} in place of {told!r}"
     return None
 
 
 def main(program, folder):
+    """Runs each row, and tells which fail."""
     names = sorted(it for it in os.listdir(folder) if os.path.isfile(f"{folder}/{it}/words"))
     failed = 0
     for name in names:
