@@ -4,3 +4,15 @@ pub mod ReadBack
 pub mod OneCall
 pub mod Bodies
 pub mod OneRefusal
+pub mod Onward
+pub mod OneAnswer
+pub mod Numbers
+pub mod Paths
+pub mod Listed
+pub mod Closing
+pub mod Arguments
+pub mod Stacks
+pub mod OnePiece
+pub mod Moves
+pub mod Answering
+pub mod Written

@@ -1,8 +1,12 @@
 pub mod Calls
 pub mod Links
+pub mod Pending
 pub mod Reading
+pub mod Amid
+pub mod Scoped
 pub mod Forms
 pub mod Routed
 pub mod View
 pub mod Worked
 pub mod RouteLaws
+pub mod Answered

@@ -4,7 +4,7 @@ use Rattle.std.specs.Int.{w64}
 use Rattle.std.specs.List.{Contains}
 use Rattle.std.specs.Fmt.{signed_decimal}
 use Rattle.table_rows.specs.Wires.{Wr, int, words, unit, rec_of, bare, tagged, Wrs, no_wires, wire}
-use Rattle.table_rows.specs.Shapes.{Sh, an_int, a_text, a_unit, a_truth, a_record, a_data, Shs, no_shapes, shape, Pts, no_parts, part, Cases, at_arguments}
+use Rattle.table_rows.specs.Shapes.{Sh, an_int, a_text, a_unit, a_truth, a_record, a_data, parameter, Shs, no_shapes, shape, Pts, no_parts, part, Cases, at_arguments}
 
 -- a piece is the decimal form of a number of 64 bits
 pub record IsNumber (p : List ℕ) (z : ℤ) : Type 0 where
@@ -56,10 +56,14 @@ mutual
     few_for_text : {D : List Cases} → Stops D a_text [] few
     few_for_truth : {D : List Cases} → Stops D a_truth [] few
     few_for_data : {D : List Cases} {d : ℕ} {ss : Shs} → Stops D (a_data d ss) [] few
+    few_for_parameter : {D : List Cases} {i : ℕ} → Stops D (parameter i) [] few
     no_int : {D : List Cases} {p : List ℕ} {ps : List (List ℕ)} → ((z : ℤ) → IsNumber p z → ⊥) → Stops D an_int (p ∷ ps) (bad (p ∷ ps))
     no_text : {D : List Cases} {p : List ℕ} {ps : List (List ℕ)} → ((t : List ℕ) → IsWords p t → ⊥) → Stops D a_text (p ∷ ps) (bad (p ∷ ps))
     no_truth : {D : List Cases} {p : List ℕ} {ps : List (List ℕ)} → (IsTruth p → ⊥) → Stops D a_truth (p ∷ ps) (bad (p ∷ ps))
     no_data : {D : List Cases} {d : ℕ} {ss : Shs} {cs : Cases} {p : List ℕ} {ps : List (List ℕ)} → slice_get D d ≡ Some cs → (Names cs p → ⊥) → Stops D (a_data d ss) (p ∷ ps) (bad (p ∷ ps))
+    -- no piece is of the form of a datatype or an argument that isn't there
+    no_datatype : {D : List Cases} {d : ℕ} {ss : Shs} {p : List ℕ} {ps : List (List ℕ)} → slice_get D d ≡ None → Stops D (a_data d ss) (p ∷ ps) (bad (p ∷ ps))
+    no_argument : {D : List Cases} {i : ℕ} {p : List ℕ} {ps : List (List ℕ)} → Stops D (parameter i) (p ∷ ps) (bad (p ∷ ps))
     in_record : {D : List Cases} {fs : Pts} {ps : List (List ℕ)} {x : Stop} → StopsParts D fs ps x → Stops D (a_record fs) ps x
     in_held : {D : List Cases} {d : ℕ} {ss : Shs} {cs : Cases} {s : Sh} {p : List ℕ} {ps : List (List ℕ)} {x : Stop} → slice_get D d ≡ Some cs → Contains cs (p, Some s) → Stops D (at_arguments ss s) ps x → Stops D (a_data d ss) (p ∷ ps) x
 

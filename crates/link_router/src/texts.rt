@@ -1,14 +1,17 @@
 //! The text of a link.
-ghost use Rattle.std.specs.Prelude.{◌≡◌, ◌<◌, ◌++◌, ◌∷◌, length, IfOk, OnOk};
+ghost use Rattle.std.specs.Prelude.{◌≡◌, ◌<◌, ◌++◌, ◌+◌, ◌∷◌, length, IfOk, OnOk};
 ghost use Rattle.table_rows.specs.View.{wire_tree, wires_tree};
 ghost use Rattle.table_rows.specs.Pieces.{pieces, all_pieces, escaped};
 ghost use Rattle.link_router.specs.Links.{joined, IsLinkOf};
+ghost use Rattle.link_router.specs.Pending.{agenda_view, pending, load, all_loads};
 ghost use Rattle.link_router.specs.View.{routes_view};
 
+use crate::agenda::Agenda;
 use crate::routes::Routes;
 use itoa::Buffer;
 use percent_encoding::{AsciiSet, NON_ALPHANUMERIC, ascii_set, percent_encode};
 use std::alloc::{AllocError, Global};
+use std::slice::from_ref;
 use table_rows::{Text, Texts, Wire, Wires};
 
 /// All bytes but letters, digits, and `-._~`.
@@ -32,7 +35,7 @@ pub fn link_text(
 {
     let mut text = Text::new(alloc);
     push_names(&mut text, &routes.entries[entry as usize].name)?;
-    push_wires(alloc, &mut text, wires)?;
+    push_values(alloc, &mut text, wires)?;
     Ok(text)
 }
 
@@ -63,10 +66,15 @@ fn push_escaped(alloc: Global, text: &mut Text, words: &Text) -> Result<(), Allo
     text.push_str(piece.as_str())
 }
 
-/// Adds the pieces of a value, each behind a slash.
-#[cycle(push_wire)]
-fn push_wire(alloc: Global, text: &mut Text, wire: &Wire) -> Result<(), AllocError>
-    ensures { OnOk result (text.new ≡ text.old ++ joined (pieces (wire_tree wire.now))) }
+/// Adds what a value writes before its parts. These stand first among what is to be written then.
+fn push_value<'w>(
+    alloc: Global,
+    text: &mut Text,
+    wire: &'w Wire,
+    agenda: &mut Agenda<'w>,
+) -> Result<(), AllocError>
+    ensures written { OnOk result (text.new ++ pending (agenda_view agenda.new) ≡ text.old ++ (joined (pieces (wire_tree wire.now)) ++ pending (agenda_view agenda.old))) }
+    ensures lighter { OnOk result (all_loads (agenda_view agenda.new) ≡ load (wire_tree wire.now) + all_loads (agenda_view agenda.old)) }
 {
     match wire {
         Wire::Int(number) => push_piece(text, Buffer::new().format(*number)),
@@ -75,61 +83,26 @@ fn push_wire(alloc: Global, text: &mut Text, wire: &Wire) -> Result<(), AllocErr
             push_escaped(alloc, text, words)
         }
         Wire::Unit => Ok(()),
-        Wire::Rec(fields) => push_wires(alloc, text, fields),
-        Wire::Tagged(name, held) => {
+        Wire::Rec(fields) => agenda.push(fields.items.as_slice()),
+        Wire::Tagged(name, None) => push_piece(text, name.as_str()),
+        Wire::Tagged(name, Some(held)) => {
             push_piece(text, name.as_str())?;
-            match held {
-                None => Ok(()),
-                Some(held) => push_wire(alloc, text, held),
-            }
+            agenda.push(from_ref(&**held))
         }
     }
 }
 
-/// Adds the pieces of values, each behind a slash.
-#[cycle(push_wire)]
-fn push_wires(alloc: Global, text: &mut Text, wires: &Wires) -> Result<(), AllocError>
+/// Adds the pieces of values, each behind a slash, without recursion.
+fn push_values(alloc: Global, text: &mut Text, wires: &Wires) -> Result<(), AllocError>
     ensures { OnOk result (text.new ≡ text.old ++ joined (all_pieces (wires_tree wires.now))) }
 {
-    for i in 0..wires.items.len() {
-        push_wire(alloc, text, &wires.items[i])?;
+    let mut agenda = Agenda::new(alloc);
+    agenda.push(wires.items.as_slice())?;
+    while let Some(values) = agenda.pop() {
+        if let Some((first, others)) = values.split_first() {
+            agenda.push(others)?;
+            push_value(alloc, text, first, &mut agenda)?;
+        }
     }
     Ok(())
-}
-
-#[cfg(test)]
-mod tests {
-    use super::*;
-    use crate::routes::Entry;
-    use table_rows::{Arguments, Datatypes};
-
-    #[test]
-    fn a_link_has_its_pieces(rt: HostRuntime) -> Result<(), AllocError> {
-        let alloc = rt.alloc();
-        let mut name = Texts::new(alloc);
-        name.push(Text::of(alloc, "Main")?)?;
-        name.push(Text::of(alloc, "echo")?)?;
-        let mut entries = Vec::new(alloc);
-        entries.push(Entry {
-            name,
-            arguments: Arguments {
-                items: Vec::new(alloc),
-            },
-            form: None,
-        })?;
-        let routes = Routes {
-            datatypes: Datatypes {
-                items: Vec::new(alloc),
-            },
-            entries,
-        };
-        let mut wires = Wires::new(alloc);
-        wires.push(Wire::Words(Text::of(alloc, "a/é")?))?;
-        wires.push(Wire::Int(-7))?;
-        let held = Box::new(alloc, Wire::Unit)?;
-        wires.push(Wire::Tagged(Text::of(alloc, "Some")?, Some(held)))?;
-        let text = link_text(alloc, &routes, 0, &wires)?;
-        assert_eq!(rt; text.as_str(), "/Main/echo/_a%2F%C3%A9/-7/Some");
-        Ok(())
-    }
 }

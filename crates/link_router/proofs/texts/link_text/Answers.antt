@@ -14,7 +14,7 @@ returns c =
     let after_name = joined (all_pieces (wires_tree c.args.wires.now)) in (
       entry_view c.index.result.now,
       mapped_at entry_view entries c.args.entry c.index.result.now within c.index.ensures,
-      c.in_ok-push_wires.ensures
+      c.in_ok-push_values.ensures
           ∙ ap (λ bs. bs ++ after_name) (c.in_ok-push_names.ensures ∙ ap (λ bs. bs ++ joined c.index.result.now.name) c.new-text.ensures)
           ∙ sym (joined-append c.index.result.now.name (all_pieces (wires_tree c.args.wires.now))),
     )
