@@ -1,12 +1,12 @@
 //! Constructors as deep as may be and one deeper, of each form, on the program's stack and on those of threads.
 
+use crate::build::{Nested, nest};
 use con_terms::kind::Kind;
 use row_normal::normal::{DEPTH, Fuel, NormalFault, normal};
 use std::alloc::Global;
 use std::sync::Wait;
 use std::thread;
 use std::thread::Threads;
-use type_trial::build::{Nested, nest};
 
 /// The forms that are nested.
 const FORMS: [Nested; 6] = [

@@ -1,8 +1,11 @@
-//! Normal forms of large rows and of deep constructors. Without arguments it makes a small run, whose answers it prints;
+//! Normal forms and kinds of large rows, normal forms of deep constructors, and large scopes. Without arguments it
+//! makes a small run, whose answers it prints;
 //! with `full` it measures.
 #![tactic(auto)]
 
+mod build;
 mod deep;
+mod kinds;
 mod measure;
 
 use anyhow::bail;
@@ -13,7 +16,10 @@ fn main(rt: HostRuntime) -> anyhow::Result<()> {
     let _ = words.next();
     match words.next() {
         None => deep::tiny(&rt, rt.alloc()),
-        Some(word) if word.as_str() == "full" => measure::full(&rt, rt.alloc()),
+        Some(word) if word.as_str() == "full" => {
+            measure::full(&rt, rt.alloc())?;
+            kinds::full(&rt, rt.alloc())
+        }
         Some(_) => bail!("the only argument is `full`"),
     }
 }

@@ -1,12 +1,12 @@
 //! The measurements, each printed on a line.
 
+use crate::build::{OPTION, app, cat, fields, lambda, map};
 use anyhow::Context;
 use con_terms::con::Con;
 use con_terms::kind::Kind;
 use row_normal::normal::{Fuel, normal};
 use std::alloc::Global;
 use std::time::{Clock, Instant};
-use type_trial::build::{OPTION, app, cat, fields, lambda, map};
 
 /// How often each normal form is computed.
 const TIMES: u32 = 100;

@@ -1,31 +1,17 @@
 //! Short ways to build constructors.
 
-use con_terms::con::{Con, Cons, Pair, Pairs};
+use con_terms::con::{Con, Pair, Pairs};
 use con_terms::kind::Kind;
 use con_terms::symbol::Sym;
 use std::alloc::{AllocError, Global};
 
-/// The name of `int`.
-pub const INT_NAME: Sym = Sym { number: 100 };
-
 /// `int`
-pub const INT: Con = Con::Basic(INT_NAME);
-
-/// The name of `string`.
-pub const STRING_NAME: Sym = Sym { number: 101 };
-
-/// `string`
-pub const STRING: Con = Con::Basic(STRING_NAME);
-
-/// The name of `option`.
-pub const OPTION_NAME: Sym = Sym { number: 102 };
+pub const INT: Con = Con::Basic(Sym { number: 100 });
 
 /// `option`
-pub const OPTION: Con = Con::Basic(OPTION_NAME);
+pub const OPTION: Con = Con::Basic(Sym { number: 102 });
 
-/// `list`
-pub const LIST: Con = Con::Basic(Sym { number: 103 });
-
+/// `Type`
 fn types(alloc: Global) -> Result<Box<Kind>, AllocError> {
     Ok(Box::new(alloc, Kind::Types)?)
 }
@@ -33,28 +19,6 @@ fn types(alloc: Global) -> Result<Box<Kind>, AllocError> {
 /// `f a`
 pub fn app(alloc: Global, f: Con, a: Con) -> Result<Con, AllocError> {
     Ok(Con::App(Box::new(alloc, f)?, Box::new(alloc, a)?))
-}
-
-/// `a -> b`
-pub fn arrow(alloc: Global, a: Con, b: Con) -> Result<Con, AllocError> {
-    Ok(Con::Arrow(Box::new(alloc, a)?, Box::new(alloc, b)?))
-}
-
-/// `x :: k -> b`
-pub fn poly(alloc: Global, k: Kind, b: Con) -> Result<Con, AllocError> {
-    Ok(Con::Poly(false, Box::new(alloc, k)?, Box::new(alloc, b)?))
-}
-
-/// `[a ~ b] => c`
-pub fn guarded(alloc: Global, a: Con, b: Con, c: Con) -> Result<Con, AllocError> {
-    let left = Box::new(alloc, a)?;
-    let right = Box::new(alloc, b)?;
-    Ok(Con::Guarded(left, right, Box::new(alloc, c)?))
-}
-
-/// The component of `c` with this number, the first having 0.
-pub fn proj(alloc: Global, c: Con, number: u32) -> Result<Con, AllocError> {
-    Ok(Con::Proj(Box::new(alloc, c)?, number))
 }
 
 /// `fn x :: Type => b`
@@ -78,11 +42,6 @@ pub fn map(alloc: Global, f: Con, r: Con) -> Result<Con, AllocError> {
     app(alloc, app(alloc, m, f)?, r)
 }
 
-/// `[]`, of kind `{Type}`
-pub fn empty(alloc: Global) -> Result<Con, AllocError> {
-    Ok(Con::Row(types(alloc)?, Pairs::new(alloc)))
-}
-
 /// The literal with one field, whose name is the symbol of this number.
 pub fn field(alloc: Global, name: u32, value: Con) -> Result<Con, AllocError> {
     let mut fields = Pairs::new(alloc);
@@ -90,25 +49,6 @@ pub fn field(alloc: Global, name: u32, value: Con) -> Result<Con, AllocError> {
         name: Con::Name(Sym { number: name }),
         value,
     })?;
-    Ok(Con::Row(types(alloc)?, fields))
-}
-
-/// The literal of this kind with one field.
-pub fn row(alloc: Global, kind: Kind, name: Con, value: Con) -> Result<Con, AllocError> {
-    let mut fields = Pairs::new(alloc);
-    fields.push(Pair { name, value })?;
-    Ok(Con::Row(Box::new(alloc, kind)?, fields))
-}
-
-/// The literal of two fields of type `int`, whose names are the symbols of these numbers.
-pub fn row_of_two(alloc: Global, first: u32, second: u32) -> Result<Con, AllocError> {
-    let mut fields = Pairs::new(alloc);
-    for number in [first, second] {
-        fields.push(Pair {
-            name: Con::Name(Sym { number }),
-            value: INT,
-        })?;
-    }
     Ok(Con::Row(types(alloc)?, fields))
 }
 
@@ -122,14 +62,6 @@ pub fn fields(alloc: Global, first: u32, end: u32) -> Result<Con, AllocError> {
         })?;
     }
     Ok(Con::Row(types(alloc)?, pairs))
-}
-
-/// `(a, b)`
-pub fn two(alloc: Global, a: Con, b: Con) -> Result<Con, AllocError> {
-    let mut parts = Cons::new(alloc);
-    parts.push(a)?;
-    parts.push(b)?;
-    Ok(Con::Tuple(parts))
 }
 
 /// A form in which constructors are put one into another.
@@ -152,6 +84,7 @@ pub fn nest(alloc: Global, form: Nested, depth: u32) -> Result<Con, AllocError> 
     Ok(c)
 }
 
+/// A constructor put into another of one form.
 fn wrapped(alloc: Global, form: Nested, c: Con) -> Result<Con, AllocError> {
     match form {
         Nested::Records => record(alloc, c),
