@@ -1,0 +1,13 @@
+//! Project files: which modules a project has, and what its directives say of addresses and of effects outside.
+#![tactic(auto)]
+
+pub mod directives;
+pub mod laws;
+pub mod lines;
+pub mod projects;
+#[cfg(test)]
+mod tests;
+pub mod words;
+
+pub use directives::Directive;
+pub use projects::{AddressRule, Project, ProjectFault, QualifiedName, read_project};
