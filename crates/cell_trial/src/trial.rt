@@ -45,7 +45,8 @@ fn staff<R: Wait>(
     Some(staff)
 }
 
-/// Joins the workers into one pass, and tells of each its number and how many entries it made. It answers nothing where one
+/// Joins the workers into one pass, and tells of each its number and how many entries it made. It answers
+/// nothing where one
 /// of them didn't make all its entries.
 fn gather(
     alloc: Global,
@@ -72,7 +73,8 @@ fn gather(
     Some(made)
 }
 
-/// Runs so many workers, each with so many entries to make. The counter then has of each worker just its entries, in order,
+/// Runs so many workers, each with so many entries to make. The counter then has of each worker just its
+/// entries, in order,
 /// and their sum. It answers nothing where there are no workers, or no memory.
 pub fn run<R: Wait + Threads + Sync>(
     rt: &R,

@@ -16,7 +16,8 @@ abbrev pub in_front : List Wr → Wrs → Wrs
 in_front [] vs = vs
 in_front (w ∷ ws) vs = wire w (in_front ws vs)
 
--- With the value w read and the pieces ps behind it, what waits, the innermost first, comes to the value v with the pieces qs behind it.
+-- With the value w read and the pieces ps behind it, what waits, the innermost first, comes to the value v with the
+-- pieces qs behind it.
 abbrev pub Completes : List Cases → List Waiting → Wr → List (List ℕ) → Wr → List (List ℕ) → Type 0
 Completes D [] w ps v qs = (w ≡ v) × (ps ≡ qs)
 Completes D (holds n ∷ ls) w ps v qs = Completes D ls (tagged n w) ps v qs

@@ -18,32 +18,56 @@ pub data Form : Type 0 where
   lacks : List ℕ → Form
   spoils : List ℕ → Form
 
--- the value of a field among the pairs: a text is what the first value of its name stands for, which must be UTF-8; a checkbox is checked where there is a pair
+-- the value of a field among the pairs: a text is what the first value of its name stands for, which must be UTF-8; a
+-- checkbox is checked where there is a pair
 pub data ReadsField : List (List ℕ × List ℕ) → List ℕ → Sh → Wr → Type 0 where
-  reads_text : {ps : List (List ℕ × List ℕ)} {n v : List ℕ} → first_value n ps ≡ Some v → IsUtf8 (decode v) → ReadsField ps n a_text (words (decode v))
-  checked : {ps : List (List ℕ × List ℕ)} {n v : List ℕ} → first_value n ps ≡ Some v → ReadsField ps n a_truth (bare (codes "True"))
-  unchecked : {ps : List (List ℕ × List ℕ)} {n : List ℕ} → first_value n ps ≡ None → ReadsField ps n a_truth (bare (codes "False"))
+  reads_text : {ps : List (List ℕ × List ℕ)} {n v : List ℕ}
+      → first_value n ps ≡ Some v
+      → IsUtf8 (decode v)
+      → ReadsField ps n a_text (words (decode v))
+  checked : {ps : List (List ℕ × List ℕ)} {n v : List ℕ}
+      → first_value n ps ≡ Some v
+      → ReadsField ps n a_truth (bare (codes "True"))
+  unchecked : {ps : List (List ℕ × List ℕ)} {n : List ℕ}
+      → first_value n ps ≡ None
+      → ReadsField ps n a_truth (bare (codes "False"))
 
 -- or why it has none
 pub data FailsField : List (List ℕ × List ℕ) → List ℕ → Sh → Form → Type 0 where
   no_pair : {ps : List (List ℕ × List ℕ)} {n : List ℕ} → first_value n ps ≡ None → FailsField ps n a_text (lacks n)
-  no_text : {ps : List (List ℕ × List ℕ)} {n v : List ℕ} → first_value n ps ≡ Some v → (IsUtf8 (decode v) → ⊥) → FailsField ps n a_text (spoils n)
+  no_text : {ps : List (List ℕ × List ℕ)} {n v : List ℕ}
+      → first_value n ps ≡ Some v
+      → (IsUtf8 (decode v) → ⊥)
+      → FailsField ps n a_text (spoils n)
 
 -- the values of all fields, in their order
 pub data ReadsFields : List (List ℕ × List ℕ) → Pts → Wrs → Type 0 where
   no_more : {ps : List (List ℕ × List ℕ)} → ReadsFields ps no_parts no_wires
-  one_more : {ps : List (List ℕ × List ℕ)} {n : List ℕ} {s : Sh} {w : Wr} {fs : Pts} {ws : Wrs} → ReadsField ps n s w → ReadsFields ps fs ws → ReadsFields ps (part n s fs) (wire w ws)
+  one_more : {ps : List (List ℕ × List ℕ)} {n : List ℕ} {s : Sh} {w : Wr} {fs : Pts} {ws : Wrs}
+      → ReadsField ps n s w
+      → ReadsFields ps fs ws
+      → ReadsFields ps (part n s fs) (wire w ws)
 
 -- or the first that has none
 pub data FailsFields : List (List ℕ × List ℕ) → Pts → Form → Type 0 where
-  here : {ps : List (List ℕ × List ℕ)} {n : List ℕ} {s : Sh} {fs : Pts} {x : Form} → FailsField ps n s x → FailsFields ps (part n s fs) x
-  later : {ps : List (List ℕ × List ℕ)} {n : List ℕ} {s : Sh} {w : Wr} {fs : Pts} {x : Form} → ReadsField ps n s w → FailsFields ps fs x → FailsFields ps (part n s fs) x
+  here : {ps : List (List ℕ × List ℕ)} {n : List ℕ} {s : Sh} {fs : Pts} {x : Form}
+      → FailsField ps n s x
+      → FailsFields ps (part n s fs) x
+  later : {ps : List (List ℕ × List ℕ)} {n : List ℕ} {s : Sh} {w : Wr} {fs : Pts} {x : Form}
+      → ReadsField ps n s w
+      → FailsFields ps fs x
+      → FailsFields ps (part n s fs) x
 
--- a body as a form of a shape, whose fields stand in byte order of their names; other pairs than those of fields don't count
+-- a body as a form of a shape, whose fields stand in byte order of their names; other pairs than those of fields
+-- don't count
 pub data ReadsForm : Sh → List ℕ → Form → Type 0 where
   of_nothing : {body : List ℕ} → ReadsForm a_unit body (filled unit)
-  of_fields : {fs : Pts} {body : List ℕ} {ws : Wrs} → ReadsFields (raw_pairs body) fs ws → ReadsForm (a_record fs) body (filled (rec_of ws))
-  of_failure : {fs : Pts} {body : List ℕ} {x : Form} → FailsFields (raw_pairs body) fs x → ReadsForm (a_record fs) body x
+  of_fields : {fs : Pts} {body : List ℕ} {ws : Wrs}
+      → ReadsFields (raw_pairs body) fs ws
+      → ReadsForm (a_record fs) body (filled (rec_of ws))
+  of_failure : {fs : Pts} {body : List ℕ} {x : Form}
+      → FailsFields (raw_pairs body) fs x
+      → ReadsForm (a_record fs) body x
 
 -- A body is one form at most.
 abbrev pub OneFormAtMost : Type 0

@@ -47,7 +47,8 @@ abbrev pub path_pieces : List ℕ → Option (List (List ℕ))
 path_pieces [] = None
 path_pieces (b ∷ bs) = if b == 47 then Some (map percent_decode (split bs)) else None
 
--- the path is a link of the call, piece by piece once each is percent-decoded; the call has no form and no cookie, and its entry is read by this method
+-- the path is a link of the call, piece by piece once each is percent-decoded; the call has no form and no cookie,
+-- and its entry is read by this method
 pub record Route (routes : Rts) (post : Bool) (target : List ℕ) (call : Cl) : Type 0 where
   pub entry : Ent
   pub is_entry : slice_get routes.entries call.entry ≡ Some entry

@@ -32,9 +32,24 @@ pub record OneFits (routes : Rts) (post : Bool) (target : List ℕ) (e : Ent) (r
 -- the refusals
 pub data Refuses : Rts → Bool → List ℕ → Astray → Type 0 where
   -- no entry of either method
-  has_no_route : {routes : Rts} {post : Bool} {target : List ℕ} → NoneFits routes post target → NoneFits routes (not post) target → Refuses routes post target no_route
+  has_no_route : {routes : Rts} {post : Bool} {target : List ℕ}
+      → NoneFits routes post target
+      → NoneFits routes (not post) target
+      → Refuses routes post target no_route
   -- only an entry of the other method
-  has_other_method : {routes : Rts} {post : Bool} {target : List ℕ} {e : Ent} {rest : List (List ℕ)} → NoneFits routes post target → OneFits routes (not post) target e rest → Refuses routes post target other_method
-  has_bad_piece : {routes : Rts} {post : Bool} {target : List ℕ} {e : Ent} {rest left : List (List ℕ)} → OneFits routes post target e rest → StopsAll routes.datatypes e.arguments rest (bad left) → Refuses routes post target (bad_piece (length rest - length left))
-  has_too_few : {routes : Rts} {post : Bool} {target : List ℕ} {e : Ent} {rest : List (List ℕ)} → OneFits routes post target e rest → StopsAll routes.datatypes e.arguments rest few → Refuses routes post target too_few
-  has_too_many : {routes : Rts} {post : Bool} {target : List ℕ} {e : Ent} {rest : List (List ℕ)} {ws : Wrs} {p : List ℕ} {left : List (List ℕ)} → OneFits routes post target e rest → ReadsAll routes.datatypes e.arguments rest ws (p ∷ left) → Refuses routes post target too_many
+  has_other_method : {routes : Rts} {post : Bool} {target : List ℕ} {e : Ent} {rest : List (List ℕ)}
+      → NoneFits routes post target
+      → OneFits routes (not post) target e rest
+      → Refuses routes post target other_method
+  has_bad_piece : {routes : Rts} {post : Bool} {target : List ℕ} {e : Ent} {rest left : List (List ℕ)}
+      → OneFits routes post target e rest
+      → StopsAll routes.datatypes e.arguments rest (bad left)
+      → Refuses routes post target (bad_piece (length rest - length left))
+  has_too_few : {routes : Rts} {post : Bool} {target : List ℕ} {e : Ent} {rest : List (List ℕ)}
+      → OneFits routes post target e rest
+      → StopsAll routes.datatypes e.arguments rest few
+      → Refuses routes post target too_few
+  has_too_many : {routes : Rts} {post : Bool} {target : List ℕ} {e : Ent} {rest : List (List ℕ)} {ws : Wrs} {p : List ℕ} {left : List (List ℕ)}
+      → OneFits routes post target e rest
+      → ReadsAll routes.datatypes e.arguments rest ws (p ∷ left)
+      → Refuses routes post target too_many

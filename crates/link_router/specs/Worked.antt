@@ -46,7 +46,8 @@ four_fields = a_record (part (codes "A") a_text (part (codes "B") a_text (part (
 abbrev pub two_fields : Sh
 two_fields = a_record (part (codes "A") a_text (part (codes "B") a_text no_parts))
 
--- The first pair of a name counts, a plus is a space, a pair without a sign is an empty value, and a checkbox without a pair is False. The first field in byte order that has no pair, or whose value isn't UTF-8, is told.
+-- The first pair of a name counts, a plus is a space, a pair without a sign is an empty value, and a checkbox without
+-- a pair is False. The first field in byte order that has no pair, or whose value isn't UTF-8, is told.
 abbrev pub WorkedForms : Type 0
 WorkedForms =
     ReadsForm four_fields (codes "B=x+y%21&A=1&A=2&C&other=3") (filled (rec_of (wire (words (codes "1")) (wire (words (codes "x y!")) (wire (bare (codes "True")) (wire (bare (codes "False")) no_wires))))))

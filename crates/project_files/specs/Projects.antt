@@ -4,7 +4,8 @@ use Rattle.std.specs.List.{list_any}
 use Rattle.project_files.specs.Lines.{Line, HasLines}
 use Rattle.project_files.specs.Directives.{Directive, a_rule, a_safe_get, a_foreign, an_effect, a_setting, directive, is_module_line, module_name}
 
--- What lines have said so far. Each list is in the order of the lines; modules of foreign effects and effects stand once.
+-- What lines have said so far. Each list is in the order of the lines; modules of foreign effects and effects stand
+-- once.
 pub record Said : Type 0 where
   -- whether the empty line was met behind which the modules stand
   pub in_modules : Bool

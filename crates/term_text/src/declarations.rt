@@ -1,6 +1,7 @@
 //! Declarations from text.
 //!
-//! `(val x c e)`, `(rec (val x c e) ..)`; `(con x k c)`, `(con-written x k c)`; `(datatype x t module (a ..) (A c) (B) ..)`,
+//! `(val x c e)`, `(rec (val x c e) ..)`; `(con x k c)`, `(con-written x k c)`; `(datatype x t module (a ..) (A
+//! c) (B) ..)`,
 //! with the symbol t of its type, its module's number or `-`, and the names of the types that it takes;
 //! `(table x c A ..)`, `(sequence x c)`, `(cookie x c)`, `(given x c)`. `(in (S T) d)` is the declaration d in the
 //! structures S and T.
