@@ -11,7 +11,7 @@ use Rattle.link_router.specs.declared.call.Call.{Call}
 use Rattle.link_router.specs.declared.router.LinkFault.{LinkFault}
 use Rattle.link_router.specs.declared.router.LinkFault.TheVariants.{NoRoute, OtherMethod, BadPiece, TooFewPieces, TooManyPieces, Memory}
 use Rattle.link_router.proofs.OneCall.{route_read, read_route, one_call}
-use Rattle.link_router.proofs.OneAnswer.{one_refusal, refused_or_read, listed_at}
+use Rattle.link_router.proofs.OneRefusal.{one_refusal, refused_or_read, listed_at}
 use Rattle.link_router.proofs.Sent.{listed_in}
 
 pub routed : (routes : Rts) (post : Bool) (target : List ℕ) (r : Result Call LinkFault) → AreNamed routes → IfOk r (λ call. ReadAs routes post target (call_view call)) → IfOk r (λ call. Route routes post target (call_view call))
@@ -28,7 +28,7 @@ each_routed routes post target (Err fault) n h k c r = never_both routes post ta
 
 told_so : (routes : Rts) (post : Bool) (target : List ℕ) (o : Option Astray) (why : Astray) → AreNamed routes → IfSome o (λ x. Refuses routes post target x) → Refuses routes post target why → (o ≡ None) ⊎ (o ≡ Some why)
 told_so routes post target None why n h r = inl refl
-told_so routes post target (Some x) why n h r = inr (ap (λ y. Some y) (one_refusal routes post target x why n h r))
+told_so routes post target (Some x) why n h r = inr (ap (λ y. Some y) (one_refusal n h r))
 
 pub each_refused : (routes : Rts) (post : Bool) (target : List ℕ) (r : Result Call LinkFault) → AreNamed routes → IfOk r (λ call. ReadAs routes post target (call_view call)) → IfErr r (λ fault. IsRefusal routes post target fault) → (why : Astray) → Refuses routes post target why → AnswersSo r why
 each_refused routes post target (Ok call) n h k why r = refused_or_read routes post target why (call_view call) n r h

@@ -3,9 +3,8 @@ pub mod Sent
 pub mod ReadBack
 pub mod OneCall
 pub mod Bodies
-pub mod OneRefusal
 pub mod Onward
-pub mod OneAnswer
+pub mod OneRefusal
 pub mod Numbers
 pub mod Paths
 pub mod Listed

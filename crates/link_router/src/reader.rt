@@ -14,8 +14,7 @@ use request_region::Region;
 use std::alloc::{AllocError, Global};
 use table_rows::{Arguments, Datatypes, Parts, Shape, Text, Wire, Wires};
 
-/// The most steps in which one value is read. That a value has so many parts without a piece of their own
-/// counts as want of
+/// The most steps in which one value is read. That a value has so many parts without a piece of their own counts as want of
 /// memory.
 const MOST_STEPS: u32 = 1_000_000;
 
