@@ -26,11 +26,11 @@ pub struct Exp {
 /// What stands before the head of a call in the source.
 #[derive(Clone, Copy, Debug, PartialEq, Eq)]
 pub enum Sigil {
-    /// Nothing: folders, instances, guards and implicit constructors are inserted.
+    /// Nothing: implicit constructors, guards, folders and instances are inserted.
     Plain,
-    /// `@`: implicit constructors and guards are inserted.
+    /// `@`: implicit constructors alone are inserted. Guards, folders and instances are the writer's.
     At,
-    /// `@@`: nothing is inserted.
+    /// `@@`: nothing is inserted. Implicit constructors are the writer's too.
     AtAt,
 }
 

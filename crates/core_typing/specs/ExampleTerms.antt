@@ -28,7 +28,7 @@ put_in f = node (byte 0) true f
 abbrev pub with_added : Cn → Its → Its
 with_added c is = with_con (byte 0) Inserted c is
 
--- the names A and B behind those of the basis, and x, n and r for what binders bind
+-- the names A and B behind those of the basis, and x for what binders bind
 abbrev pub a_name : ℕ
 a_name = 36
 
@@ -38,8 +38,15 @@ b_name = 37
 abbrev pub x_name : ℕ
 x_name = 38
 
+-- and r and s behind them, for rows
+abbrev pub r_name : ℕ
+r_name = 39
+
+abbrev pub s_name : ℕ
+s_name = 40
+
 abbrev pub example_texts : List (List ℕ)
-example_texts = basis_texts ++ codes "A" ∷ codes "B" ∷ codes "x" ∷ []
+example_texts = basis_texts ++ codes "A" ∷ codes "B" ∷ codes "x" ∷ codes "r" ∷ codes "s" ∷ []
 
 -- a scope without anything but the basis
 abbrev pub basis_scope : Sc

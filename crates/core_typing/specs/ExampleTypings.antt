@@ -12,12 +12,12 @@ use Rattle.core_terms.specs.Datatypes.{basis_datatypes}
 use Rattle.core_typing.specs.Cover.{Covers, bare_shape}
 use Rattle.core_typing.specs.Faults.{mismatch, not_disjoint, inexhaustive}
 use Rattle.core_typing.specs.Tells.{Tells}
-use Rattle.core_typing.specs.ExampleTerms.{byte, said, a_name, x_name, basis_scope, clashing, without_none, option_int, none_at_name, some_at_name, option_at_name, map_of_map, maps_twice, maps_once, too_many_fields}
+use Rattle.core_typing.specs.ExampleTerms.{byte, said, a_name, r_name, s_name, basis_scope, clashing, without_none, option_int, none_at_name, some_at_name, option_at_name, map_of_map, maps_twice, maps_once, too_many_fields}
 
 -- under r :: {Type}, s :: {Type} and [r ~ s], with one variable of this type
 abbrev pub with_two_rows : Cn → Sc
-with_two_rows t = under (t ∷ []) (under_guard (var 1) (var 0) (under_con x_name (row_of types)
-    (under_con x_name (row_of types) basis_scope)))
+with_two_rows t = under (t ∷ []) (under_guard (var 1) (var 0) (under_con s_name (row_of types)
+    (under_con r_name (row_of types) basis_scope)))
 
 -- A call whose guard holds by an assumption: f ! is an int, where f : [r ~ s] => int and r ~ s is assumed.
 abbrev pub GuardHoldsByAssumption : Type 0
@@ -30,10 +30,11 @@ abbrev pub MapOfMapIsTyped : Type 0
 MapOfMapIsTyped = Typed cover_asked basis_scope map_of_map (poly false (row_of types) (arrow (maps_twice (var 0))
     (maps_once (var 0))))
 
--- A record with more fields than its written type: told is mismatch wanted $ r found $ ( r ++ s ), at the body.
+-- A record with more fields than its written type: told is mismatch wanted $ r found $ ( r ++ s ), at the body, with
+-- the names of both rows, the inner one's first.
 abbrev pub MoreFieldsMismatch : Type 0
 MoreFieldsMismatch = Tells (with_two_rows (record_of (cat (var 1) (var 0)))) too_many_fields (mismatch (byte 65)
-    (x_name ∷ x_name ∷ []) (record_of (var 1)) (record_of (cat (var 1) (var 0))))
+    (s_name ∷ r_name ∷ []) (record_of (var 1)) (record_of (cat (var 1) (var 0))))
 
 -- Two records with one name: told is not disjoint #A #A, at the first byte of the term.
 abbrev pub SameNamesClash : Type 0

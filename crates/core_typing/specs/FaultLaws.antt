@@ -44,7 +44,8 @@ ProgramSidesDiffer = (p : Pg) (f : Fault) → Formed p → ProgramTells p f → 
 abbrev pub FoundTellsNothing : Type 0
 FoundTellsNothing = (G : Sc) (e : Ex) (t : Cn) (f : Fault) → FoundBy Covers G e t → Fails G e f → ⊥
 
--- whether patterns cover, and whether links are calls with arguments that travel, is decided elsewhere
+-- Whether patterns cover, and whether links are calls with arguments that travel, can be told. Nothing proves either
+-- yet: the law below, and each law over it, stands on both.
 abbrev pub CoverIsDecided : Type 0
 CoverIsDecided = (G : Sc) (p : Place) (ps : List Pt) (t : Cn)
     → Covers G.datatypes ps t ⊎ ((f : Fault) × Uncovered G p ps t f)
@@ -52,7 +53,7 @@ CoverIsDecided = (G : Sc) (p : Place) (ps : List Pt) (t : Cn)
 abbrev pub LinksAreDecided : Type 0
 LinksAreDecided = (G : Sc) (n : AttrName) (e : Ex) → IsLinked G n e ⊎ (IsLinked G n e → ⊥)
 
--- Then a term is found with cover, or it has a fault: no premise fails untold.
+-- Where both can be told, a term is found with cover, or it has a fault: no premise fails untold.
 abbrev pub FoundOrFails : Type 0
 FoundOrFails = CoverIsDecided
     → LinksAreDecided

@@ -25,7 +25,9 @@ pub data Twice : Type 0 where
   twice_entry : List (List ℕ) → Twice
 
 -- A fault that keeps constructors keeps what the constructor variables in scope are called, the innermost first, so
--- that it can be printed alone.
+-- that what it tells in its own scope can be printed alone. A flaw of kinding under a binder inside a constructor
+-- keeps pieces that are numbered from there, and the binders between have no names yet: their variables would be
+-- printed by the names of others, and those further out by wrong ones or none.
 pub data Fault : Type 0 where
   unbound : Place → Unbound → Fault
   -- two kinds, two normal forms that differ: what was wanted, and what was found

@@ -37,7 +37,10 @@
 --   the row's kind: of none; at the node
 -- element
 --   where it stands: of none; at the node
---   its attributes: of the attribute's term; at the attribute's term
+--   an attribute is one of the tag's: of none; at the attribute's name
+--   it has its type: of the attribute's term; at that term
+--   it is a call, where it is a link or an action: of the attribute's term; at the attribute's name
+--   it stands once: of none; at the name of the second
 --   its nodes: of the node, or those behind it; at the node in it
 -- literal
 --   the kinds of its rows: of none; at the node
