@@ -12,7 +12,7 @@ use Rattle.core_typing.specs.Typed.{by_equal}
 use Rattle.core_typing.specs.Found.{FoundBy}
 use Rattle.core_typing.specs.Declarations.{DeclsTyped, no_decls, a_val, some_vals, a_con, a_datatype, Distinct}
 use Rattle.core_typing.specs.Faults.{Fault}
-use Rattle.core_typing.specs.Tells.{DeclAt, here, past_val, past_vals, past_con, past_datatype, DeclSub, of_val, of_vals, DeclOwn, type_kind, other_type, in_named, con_kind, held_kind, same_constructor, ProgramOwn, of_declaration, same_entry, in_declaration, tells_outside, tells_in_term, Tells, tells_own, tells_inner, Fails, itself, inside, past_thing}
+use Rattle.core_typing.specs.Tells.{DeclAt, here, past_val, past_vals, past_con, past_datatype, DeclSub, of_val, of_vals, DeclOwn, type_kind, other_type, in_named, con_kind, held_kind, same_constructor, no_thing_rule, ProgramOwn, of_declaration, same_entry, in_declaration, tells_outside, tells_in_term, Tells, tells_own, tells_inner, Fails, itself, inside, past_thing}
 use Rattle.core_typing.specs.FoundProgram.{DeclsFound, no_decls_found, a_val_found, vals_found, con_found, datatype_found, ProgramFound, FoundIsAccepted, FoundIsClear}
 use Rattle.core_typing.proofs.Normal.{alike_equal}
 use Rattle.core_typing.proofs.Judging.{has_kind}
@@ -62,6 +62,7 @@ declaration_out (in_named f) (vals_found ns rest) = named_out f ns
 declaration_out (con_kind f) (con_found k rest) = kind_out k f
 declaration_out (held_kind {c = c} {held = held} i e f) (datatype_found h d rest) = kind_out (h c held i e) f
 declaration_out (same_constructor {d = d} {i = i} {j = j} {b = b} {c = c} e g l n) (datatype_found h x rest) = names_out d.constructors i j b c x e g l n
+declaration_out no_thing_rule h = elim h [ ]
 
 apart_below : (i j : ℕ) → i < j → i ≢ j
 apart_below i j l e = absurd (omega (arith, l, e))

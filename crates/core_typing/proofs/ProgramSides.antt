@@ -12,7 +12,7 @@ use Rattle.core_typing.specs.Declarations.{datatypes, value_types, named_values,
 use Rattle.core_typing.specs.Accepts.{Formed}
 use Rattle.core_typing.specs.Entries.{all_datatypes}
 use Rattle.core_typing.specs.Faults.{Fault}
-use Rattle.core_typing.specs.Tells.{DeclAt, here, past_val, past_vals, past_con, past_datatype, of_val, of_vals, DeclOwn, type_kind, other_type, in_named, con_kind, held_kind, same_constructor, ProgramOwn, of_declaration, same_entry, ProgramSub, in_declaration, tells_outside, tells_in_term, past_thing}
+use Rattle.core_typing.specs.Tells.{DeclAt, here, past_val, past_vals, past_con, past_datatype, of_val, of_vals, DeclOwn, type_kind, other_type, in_named, con_kind, held_kind, same_constructor, no_thing_rule, ProgramOwn, of_declaration, same_entry, ProgramSub, in_declaration, tells_outside, tells_in_term, past_thing}
 use Rattle.core_typing.specs.FaultLaws.{SidesDiffer, OwnSymbols, ProgramSidesDiffer}
 use Rattle.core_typing.proofs.SidesDiffer.{kind_differs, wants_differ, named_differs, told_differs}
 
@@ -94,6 +94,7 @@ declaration_differs (in_named h) = named_differs h
 declaration_differs (con_kind k) = kind_differs k
 declaration_differs (held_kind c h k) = kind_differs k
 declaration_differs (same_constructor i j l e) = tt
+declaration_differs no_thing_rule = tt
 
 outside_differs : {p : Pg} {f : Fault} → ProgramOwn p f → SidesDiffer f
 outside_differs (of_declaration a h) = declaration_differs h

@@ -87,7 +87,8 @@ Distinct [] = Unit {0}
 Distinct (x ∷ xs) = All (λ y. x ≢ y) xs × Distinct xs
 
 -- each declaration is typed where those before it are in scope: values by their written types, names that are
--- declared together with each other, a datatype with itself. No rule types a thing without a term yet
+-- declared together with each other, a datatype with itself. No rule types a thing without a term yet: its
+-- declaration is told not to be built
 pub data DeclsTyped (A : Asks) : Pg → List Cn → List Dt → List De → Type 0 where
   no_decls : {p : Pg} {tops : List Cn} {ds : List Dt} → DeclsTyped A p tops ds []
   a_val : {p : Pg} {tops : List Cn} {ds : List Dt} {path : List ℕ} {at : Place} {x : ℕ} {w : Bool} {t : Cn} {e : Ex}

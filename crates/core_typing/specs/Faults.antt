@@ -41,7 +41,7 @@ pub data Fault : Type 0 where
   link_not_call : Place → Fault
   not_serialisable : Place → Fault
   too_large : Place → Fault
-  -- a form for which there are no rules yet
+  -- a form of term or of declaration for which there are no rules yet
   not_built : Place → Fault
 
 abbrev pub at : Fault → Place

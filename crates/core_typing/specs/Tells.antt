@@ -16,7 +16,7 @@ use Rattle.core_typing.specs.Judged.{HasKind, LacksKind, guard_forms}
 use Rattle.core_typing.specs.PatternFaults.{PatFound}
 use Rattle.core_typing.specs.Found.{Found}
 use Rattle.core_typing.specs.Own.{Own, Wants, NamedFault, place_of, type_place}
-use Rattle.core_typing.specs.Faults.{Fault, redeclared, twice_constructor, twice_entry, at, Earlier}
+use Rattle.core_typing.specs.Faults.{Fault, redeclared, not_built, twice_constructor, twice_entry, at, Earlier}
 use Rattle.core_typing.specs.Declarations.{Value, values, value_types, named_values, scope_with, under_types}
 use Rattle.core_typing.specs.Entries.{IsEntry}
 
@@ -182,7 +182,7 @@ pub data Fails : Sc → Ex → Fault → Type 0 where
       → Fails G e f
 
 -- What a declaration has at fault itself: a kind, a term that hasn't the written type, a constructor of a name that
--- stands before it.
+-- stands before it, or that it is a thing without a term, for which there is no rule yet.
 pub data DeclOwn : Pg → List Cn → List Dt → De → Fault → Type 0 where
   type_kind : {p : Pg} {tops : List Cn} {ds : List Dt} {q : Place} {path : List ℕ} {x : ℕ} {w : Bool} {t : Cn}
       {e : Ex} {f : Fault}
@@ -212,6 +212,8 @@ pub data DeclOwn : Pg → List Cn → List Dt → De → Fault → Type 0 where
       → i < j
       → b.name ≡ c.name
       → DeclOwn p tops ds (datatype d) (redeclared c.place (twice_constructor c.name))
+  no_thing_rule : {p : Pg} {tops : List Cn} {ds : List Dt} {path : List ℕ} {q : Place} {x : ℕ} {k : Th} {t : Cn}
+      → DeclOwn p tops ds (thing path q x k t) (not_built q)
 
 -- the terms of a declaration, with their scopes
 pub data DeclSub : Pg → List Cn → List Dt → De → Sc → Ex → Type 0 where
