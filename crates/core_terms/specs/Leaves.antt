@@ -1,5 +1,5 @@
--- What whoever builds a program sees to at its leaves: each name of a field, an input or a constructor has a text,
--- each number fits in 64 bits, and each text is UTF-8.
+-- What whoever builds a program sees to at its leaves: each name of a field, an input or a constructor has a text, and
+-- so has each name that a binder or a declaration gives; each number fits in 64 bits, and each text is UTF-8.
 -- The walks go through every constructor, pattern and term.
 use Rattle.std.specs.Prelude.{ℕ, ◌<◌, List, Option, Some, None, IsUtf8, FitsSigned}
 use Rattle.std.specs.Int.{w64}
@@ -49,7 +49,7 @@ abbrev mutual
 
   pub PatternFormFits : ℕ → Pf → Type 0
   PatternFormFits n any = Unit {0}
-  PatternFormFits n (binds x w t) = NamesThere n t
+  PatternFormFits n (binds x w t) = (x < n) × NamesThere n t
   PatternFormFits n (is_number z) = FitsSigned w64 z
   PatternFormFits n (is_text t) = IsUtf8 t
   PatternFormFits n (is_bare s j) = Unit {0}
@@ -76,7 +76,7 @@ abbrev mutual
   FormFits n (text t) = IsUtf8 t
   FormFits n (built s j) = Unit {0}
   FormFits n (fn q t e) = PatternFits n q × NamesThere n t × TermFits n e
-  FormFits n (fn_con x i w k e) = TermFits n e
+  FormFits n (fn_con x i w k e) = (x < n) × TermFits n e
   FormFits n (fn_guard c d e) = NamesThere n c × NamesThere n d × TermFits n e
   FormFits n (call f s is) = TermFits n f × ItemsFit n is
   FormFits n (let_in ls e) = LocalsFit n ls × TermFits n e
@@ -100,11 +100,11 @@ abbrev mutual
 
   pub NamedFit : ℕ → Nms → Type 0
   NamedFit n no_named = Unit {0}
-  NamedFit n (named p x w t e ns) = NamesThere n t × TermFits n e × NamedFit n ns
+  NamedFit n (named p x w t e ns) = (x < n) × NamesThere n t × TermFits n e × NamedFit n ns
 
   pub LocalsFit : ℕ → Los → Type 0
   LocalsFit n no_locals = Unit {0}
-  LocalsFit n (local_val p x w t e ls) = NamesThere n t × TermFits n e × LocalsFit n ls
+  LocalsFit n (local_val p x w t e ls) = (x < n) × NamesThere n t × TermFits n e × LocalsFit n ls
   LocalsFit n (local_rec ns ls) = NamedFit n ns × LocalsFit n ls
 
   pub BranchesFit : ℕ → Brs → Type 0
@@ -151,8 +151,8 @@ SortFits n a_cookie = Unit {0}
 SortFits n a_given = Unit {0}
 
 abbrev pub DeclFits : ℕ → De → Type 0
-DeclFits n (val path p x w t e) = NamesThere n t × TermFits n e
+DeclFits n (val path p x w t e) = (x < n) × NamesThere n t × TermFits n e
 DeclFits n (vals path ns) = NamedFit n ns
-DeclFits n (con_is path p x w k c) = NamesThere n c
+DeclFits n (con_is path p x w k c) = AllThere n path × (x < n) × NamesThere n c
 DeclFits n (datatype d) = DatatypeFits n d
-DeclFits n (thing path p x k t) = SortFits n k × NamesThere n t
+DeclFits n (thing path p x k t) = (x < n) × SortFits n k × NamesThere n t

@@ -39,7 +39,8 @@ pub record Located (p : Pg) (v : Value) : Type 0 where
 -- What a program is built as, by whoever builds it: its symbols begin with those of the basis and have different
 -- texts, which like modules' names have neither / nor %; no two types have one symbol, and no two folders one kind;
 -- each value stands in a module and has a name, which begins no other's; each name of a field, an input, a
--- constructor or a datatype has a text, and each literal fits; and what it exports is there.
+-- constructor or a datatype has a text, as has each that a binder or a declaration gives, and each literal fits; and
+-- what it exports is there.
 pub record Formed (p : Pg) : Type 0 where
   pub texts : take (length basis_texts) p.names ≡ basis_texts
   pub differ : TextsDiffer p.names
