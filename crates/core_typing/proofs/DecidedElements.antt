@@ -1,6 +1,6 @@
 -- An element is found, or it has a fault, or a part has one.
 use Rattle.std.proofs.Common.{◌≡◌, Bool, true, false, Option, Some, None, refl, sym, ◌∙◌, subst, ◌⊎◌, inl, inr}
-use Rattle.con_terms.specs.Trees.{types, names, row_of, Cn, cat}
+use Rattle.con_terms.specs.Trees.{types, units, names, row_of, Cn, cat}
 use Rattle.row_normal.specs.Ordered.{ordered}
 use Rattle.con_terms.specs.declared.place.Place.{Place}
 use Rattle.xml_trees.specs.declared.source_name.TagName.{TagName}
@@ -33,17 +33,18 @@ pub data ElementOut (G : Sc) (p : Place) (g : TagName) (n : Option (Place × Cn)
   element_attribute : (e : Ex) → InAttributes as' e → Fl G e → ElementOut G p g n c u as' xs
   element_node : (e : Ex) → InNodes xs e → Fl G e → ElementOut G p g n c u as' xs
 
--- the row of fields and the attributes are well, or what is told
+-- both rows and the attributes are well, or what is told
 pub data CommonOut (G : Sc) (p : Place) (g : TagName) (n : Option (Place × Cn)) (c u : Cn) (as' : Ats) (xs : Xs) : Type 0 where
-  both_well : HasKind G u (row_of types) → AttributesFound Covers G u g as' → CommonOut G p g n c u as' xs
+  both_well : HasKind G c (row_of units) → HasKind G u (row_of types) → AttributesFound Covers G u g as' → CommonOut G p g n c u as' xs
   common : ElementOut G p g n c u as' xs → CommonOut G p g n c u as' xs
 
-pub common_dec : (G : Sc) (p : Place) (g : TagName) (n : Option (Place × Cn)) (c u : Cn) (as' : Ats) (xs : Xs) → Kds G u (row_of types) → AttributesOut G u g as' → CommonOut G p g n c u as' xs
-common_dec G p g n c u as' xs (inr l) r = let (f, y) = l p in common (element_fault f (own.uses_kind y))
-common_dec G p g n c u as' xs (inl k) (all_attributes r) = both_well k r
-common_dec G p g n c u as' xs (inl k) (attribute_fault f y) = common (element_fault f (own.in_attributes y))
-common_dec G p g n c u as' xs (inl k) (twice_fault f y) = common (element_fault f (own.same_attribute y))
-common_dec G p g n c u as' xs (inl k) (attribute_part e i y) = common (element_attribute e i y)
+pub common_dec : (G : Sc) (p : Place) (g : TagName) (n : Option (Place × Cn)) (c u : Cn) (as' : Ats) (xs : Xs) → Kds G c (row_of units) → Kds G u (row_of types) → AttributesOut G u g as' → CommonOut G p g n c u as' xs
+common_dec G p g n c u as' xs (inr l) m r = let (f, y) = l p in common (element_fault f (own.context_kind y))
+common_dec G p g n c u as' xs (inl j) (inr l) r = let (f, y) = l p in common (element_fault f (own.uses_kind y))
+common_dec G p g n c u as' xs (inl j) (inl k) (all_attributes r) = both_well j k r
+common_dec G p g n c u as' xs (inl j) (inl k) (attribute_fault f y) = common (element_fault f (own.in_attributes y))
+common_dec G p g n c u as' xs (inl j) (inl k) (twice_fault f y) = common (element_fault f (own.same_attribute y))
+common_dec G p g n c u as' xs (inl j) (inl k) (attribute_part e i y) = common (element_attribute e i y)
 
 -- a name on a tag that isn't an input's
 pub name_on_dec : (G : Sc) (p : Place) (g : TagName) (at : Place) (n c u : Cn) (as' : Ats) (xs : Xs) → ((t : Cn) → sort_of g ≡ an_input t → ⊥) → Kds G n names → (o : Option Cn) → normal_of n ≡ o → ElementOut G p g (Some (at, n)) c u as' xs
@@ -121,22 +122,22 @@ either_way h w = subst StandsEitherWay (sym h) w
 pub holding_dec' : (G : Sc) (p : Place) (g : TagName) (w : Where) (c u : Cn) (as' : Ats) (xs : Xs) → sort_of g ≡ holding w → Stood G p (stands g) c → CommonOut G p g None c u as' xs → ((d : Cn) → NodesOut G d u xs) → ElementOut G p g None c u as' xs
 holding_dec' G p g w c u as' xs s (stands_not none (f, x)) m go = element_fault f (own.stands_elsewhere (either_way s tt) none x)
 holding_dec' G p g w c u as' xs s (stands_there o i a) (common r) go = r
-holding_dec' G p g w c u as' xs s (stands_there o i a) (both_well k h) go = by_nodes (go (context_row w o))
+holding_dec' G p g w c u as' xs s (stands_there o i a) (both_well q k h) go = by_nodes (go (context_row w o))
   where
     by_nodes : NodesOut G (context_row w o) u xs → ElementOut G p g None c u as' xs
-    by_nodes (all_nodes b r) = element_is _ (holding_found o s i a k h r)
+    by_nodes (all_nodes b r) = element_is _ (holding_found o s i a q k h r)
     by_nodes (node_fault f y) = element_fault f (own.in_nodes o s i a y)
     by_nodes (node_part e j y) = element_node e j y
 
 pub words_dec : (G : Sc) (p : Place) (g : TagName) (c u : Cn) (as' : Ats) (xs : Xs) → sort_of g ≡ of_words → Stood G p (stands g) c → CommonOut G p g None c u as' xs → ((d : Cn) → NodesOut G d u xs) → ElementOut G p g None c u as' xs
 words_dec G p g c u as' xs s (stands_not none (f, x)) m go = element_fault f (own.stands_elsewhere (either_way s tt) none x)
 words_dec G p g c u as' xs s (stands_there o i a) (common r) go = r
-words_dec G p g c u as' xs s (stands_there o i a) (both_well k h) go = by_nodes (go (context_row (stands g) o)) (all_words_dec xs)
+words_dec G p g c u as' xs s (stands_there o i a) (both_well q k h) go = by_nodes (go (context_row (stands g) o)) (all_words_dec xs)
   where
     by_nodes : NodesOut G (context_row (stands g) o) u xs → NodesAreWords xs ⊎ ((e : Ex) × InNodes xs e × NotWords xs e) → ElementOut G p g None c u as' xs
     by_nodes (node_fault f y) w = element_fault f (own.in_title o s a y)
     by_nodes (node_part e j y) w = element_node e j y
-    by_nodes (all_nodes b r) (inl w) = element_is _ (words_found o s a k h w r)
+    by_nodes (all_nodes b r) (inl w) = element_is _ (words_found o s a q k h w r)
     by_nodes (all_nodes b r) (inr (e, j, x)) = let y = tree_in j r in by_type e x y.t y.found (normal_of y.t) refl
       where
         by_type : (e : Ex) → NotWords xs e → (t : Cn) → FoundBy Covers G e t → (m : Option Cn) → normal_of t ≡ m → ElementOut G p g None c u as' xs
@@ -146,18 +147,18 @@ words_dec G p g c u as' xs s (stands_there o i a) (both_well k h) go = by_nodes 
 pub empty_dec : (G : Sc) (p : Place) (g : TagName) (c u : Cn) (as' : Ats) (xs : Xs) → sort_of g ≡ empty → Stood G p (stands g) c → CommonOut G p g None c u as' xs → FirstNode G xs → ElementOut G p g None c u as' xs
 empty_dec G p g c u as' xs s (stands_not none (f, x)) m n = element_fault f (own.stands_elsewhere (either_way s tt) none x)
 empty_dec G p g c u as' xs s (stands_there o i a) (common r) n = r
-empty_dec G p g c u as' no_nodes s (stands_there o i a) (both_well k h) n = element_is _ (empty_found o s a k h)
-empty_dec G p g c u as' (a_node b e xs) s (stands_there o i a) (both_well k h) (inr x) = element_node e tells.this_node x
-empty_dec G p g c u as' (a_node b e xs) s (stands_there o i a) (both_well k h) (inl (t, f)) = let (x, y) = not_held G (place_of e) t (normal_of t) refl in element_fault x (own.holds_nothing s (bare f) y)
+empty_dec G p g c u as' no_nodes s (stands_there o i a) (both_well q k h) n = element_is _ (empty_found o s a q k h)
+empty_dec G p g c u as' (a_node b e xs) s (stands_there o i a) (both_well q k h) (inr x) = element_node e tells.this_node x
+empty_dec G p g c u as' (a_node b e xs) s (stands_there o i a) (both_well q k h) (inl (t, f)) = let (x, y) = not_held G (place_of e) t (normal_of t) refl in element_fault x (own.holds_nothing s (bare f) y)
 
 pub form_dec : (G : Sc) (p : Place) (g : TagName) (c u : Cn) (as' : Ats) (xs : Xs) → sort_of g ≡ a_form → Alike (context_row in_body false) c ⊎ Told (Wants G p (context_row in_body false) c) → Alike no_types u ⊎ Told (Wants G p no_types u) → CommonOut G p g None c u as' xs → ((d v : Cn) → NodesOut G d v xs) → ElementOut G p g None c u as' xs
 form_dec G p g c u as' xs s (inr (f, x)) v m go = element_fault f (own.form_in_form s x)
 form_dec G p g c u as' xs s (inl a) (inr (f, x)) m go = element_fault f (own.form_filled_before s x)
 form_dec G p g c u as' xs s (inl a) (inl b) (common r) go = r
-form_dec G p g c u as' xs s (inl a) (inl b) (both_well k h) go = by_nodes (go (context_row in_body true) no_types)
+form_dec G p g c u as' xs s (inl a) (inl b) (both_well q k h) go = by_nodes (go (context_row in_body true) no_types)
   where
     by_nodes : NodesOut G (context_row in_body true) no_types xs → ElementOut G p g None c u as' xs
-    by_nodes (all_nodes d r) = element_is _ (form_found s a b k h r)
+    by_nodes (all_nodes d r) = element_is _ (form_found s a b q k h r)
     by_nodes (node_fault f y) = element_fault f (own.in_form_nodes s y)
     by_nodes (node_part e j y) = element_node e j y
 
@@ -165,17 +166,17 @@ pub input_dec : (G : Sc) (p : Place) (g : TagName) (at : Place) (t n c u : Cn) (
 input_dec G p g at t n c u as' xs s (inr (f, x)) l m r = element_fault f (own.input_outside s x)
 input_dec G p g at t n c u as' xs s (inl a) (inr l) m r = let (f, y) = l at in element_fault f (own.name_kind_of y)
 input_dec G p g at t n c u as' xs s (inl a) (inl l) (common m) r = m
-input_dec G p g at t n c u as' no_nodes s (inl a) (inl l) (both_well k h) r = element_is _ (input_found s a k l h)
-input_dec G p g at t n c u as' (a_node b e xs) s (inl a) (inl l) (both_well k h) (inr x) = element_node e tells.this_node x
-input_dec G p g at t n c u as' (a_node b e xs) s (inl a) (inl l) (both_well k h) (inl (v, f)) = let (x, y) = not_held G (place_of e) v (normal_of v) refl in element_fault x (own.input_holds_nothing s (bare f) y)
+input_dec G p g at t n c u as' no_nodes s (inl a) (inl l) (both_well q k h) r = element_is _ (input_found s a q k l h)
+input_dec G p g at t n c u as' (a_node b e xs) s (inl a) (inl l) (both_well q k h) (inr x) = element_node e tells.this_node x
+input_dec G p g at t n c u as' (a_node b e xs) s (inl a) (inl l) (both_well q k h) (inl (v, f)) = let (x, y) = not_held G (place_of e) v (normal_of v) refl in element_fault x (own.input_holds_nothing s (bare f) y)
 
 pub button_dec : (G : Sc) (p : Place) (g : TagName) (c u : Cn) (as' : Ats) (xs : Xs) → sort_of g ≡ a_button → Alike (context_row in_body true) c ⊎ Told (Wants G p (context_row in_body true) c) → SecondOut attr.Action as' → CommonOut G p g None c u as' xs → FirstNode G xs → ElementOut G p g None c u as' xs
 button_dec G p g c u as' xs s (inr (f, x)) l m r = element_fault f (own.button_outside s x)
 button_dec G p g c u as' xs s (inl a) (alone none) m r = element_fault _ (own.no_action s none)
 button_dec G p g c u as' xs s (inl a) (second f x) (common m) r = m
-button_dec G p g c u as' no_nodes s (inl a) (second f x) (both_well k h) r = element_is _ (button_found s a k h (second_there x))
-button_dec G p g c u as' (a_node b e xs) s (inl a) (second f x) (both_well k h) (inr y) = element_node e tells.this_node y
-button_dec G p g c u as' (a_node b e xs) s (inl a) (second f x) (both_well k h) (inl (v, d)) = let (y, z) = not_held G (place_of e) v (normal_of v) refl in element_fault y (own.button_holds_nothing s (bare d) z)
+button_dec G p g c u as' no_nodes s (inl a) (second f x) (both_well q k h) r = element_is _ (button_found s a q k h (second_there x))
+button_dec G p g c u as' (a_node b e xs) s (inl a) (second f x) (both_well q k h) (inr y) = element_node e tells.this_node y
+button_dec G p g c u as' (a_node b e xs) s (inl a) (second f x) (both_well q k h) (inl (v, d)) = let (y, z) = not_held G (place_of e) v (normal_of v) refl in element_fault y (own.button_holds_nothing s (bare d) z)
 
 pub unnamed_dec : (G : Sc) (p : Place) (g : TagName) (c u : Cn) (as' : Ats) (xs : Xs) → (x : Sort) → sort_of g ≡ x → CommonOut G p g None c u as' xs → FirstNode G xs → ((d v : Cn) → NodesOut G d v xs) → ElementOut G p g None c u as' xs
 unnamed_dec G p g c u as' xs (holding w) s m r go = holding_dec' G p g w c u as' xs s (stood G p (stands g) c) m (λ d. go d u)
@@ -207,5 +208,5 @@ element_dec G p a g n c u as' xs (element_attribute e i h) = inr (part_fails (te
 element_dec G p a g n c u as' xs (element_node e i h) = inr (part_fails (tells.inner_node i) h)
 
 pub tagged_dec : (G : Sc) (p : Place) (g : TagName) (n : Option (Place × Cn)) (c u : Cn) (as' : Ats) (xs : Xs) → AttributesOut G u g as' → FirstNode G xs → ((d v : Cn) → NodesOut G d v xs) → ElementOut G p g n c u as' xs
-tagged_dec G p g None c u as' xs m r go = unnamed_dec G p g c u as' xs (sort_of g) refl (common_dec G p g None c u as' xs (kinding G u (row_of types)) m) r go
-tagged_dec G p g (Some (at, n)) c u as' xs m r go = named_dec' G p g at n c u as' xs (sort_of g) refl (common_dec G p g (Some (at, n)) c u as' xs (kinding G u (row_of types)) m) r
+tagged_dec G p g None c u as' xs m r go = unnamed_dec G p g c u as' xs (sort_of g) refl (common_dec G p g None c u as' xs (kinding G c (row_of units)) (kinding G u (row_of types)) m) r go
+tagged_dec G p g (Some (at, n)) c u as' xs m r go = named_dec' G p g at n c u as' xs (sort_of g) refl (common_dec G p g (Some (at, n)) c u as' xs (kinding G c (row_of units)) (kinding G u (row_of types)) m) r

@@ -62,12 +62,12 @@ mutual
   named_less z (name_found a b c d) = name_found a (found_less z b) c (named_less z d)
 
   element_less : {C D : CoverAsked} {G : Sc} {m : El} {t : Cn} → Implies C D → ElementFound C G m t → ElementFound D G m t
-  element_less z (holding_found o a b c d e f) = holding_found o a b c d (attributes_less z e) (nodes_less z f)
-  element_less z (words_found o a b c d e f) = words_found o a b c (attributes_less z d) e (nodes_less z f)
-  element_less z (empty_found o a b c d) = empty_found o a b c (attributes_less z d)
-  element_less z (form_found a b c d e f) = form_found a b c d (attributes_less z e) (nodes_less z f)
-  element_less z (input_found a b c d e) = input_found a b c d (attributes_less z e)
-  element_less z (button_found a b c d e) = button_found a b c (attributes_less z d) e
+  element_less z (holding_found o a b c y d e f) = holding_found o a b c y d (attributes_less z e) (nodes_less z f)
+  element_less z (words_found o a b y c d e f) = words_found o a b y c (attributes_less z d) e (nodes_less z f)
+  element_less z (empty_found o a b y c d) = empty_found o a b y c (attributes_less z d)
+  element_less z (form_found a b c y d e f) = form_found a b c y d (attributes_less z e) (nodes_less z f)
+  element_less z (input_found a b y c d e) = input_found a b y c d (attributes_less z e)
+  element_less z (button_found a b y c d e) = button_found a b y c (attributes_less z d) e
 
   attributes_less : {C D : CoverAsked} {G : Sc} {u : Cn} {g : TagName} {as' : Ats} → Implies C D → AttributesFound C G u g as' → AttributesFound D G u g as'
   attributes_less z no_attribute_found = no_attribute_found

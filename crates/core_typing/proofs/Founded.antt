@@ -92,12 +92,12 @@ mutual
   named_typed (name_found k e h ns) = each_name (has_kind k) (by_equal (found_typed e) (back (alike_equal h)) tt) (named_typed ns)
 
   element_typed : {C : CoverAsked} {G : Sc} {m : El} {t : Cn} → ElementFound C G m t → ElementIs (asking_cover C) G m t
-  element_typed (holding_found o s i h k as' xs) = let r = nodes_typed xs same in record { own_type = _; of_type = of_holding o s i (back (alike_equal h)) (has_kind k) (attributes_typed as') r.filled tt; equal = in_app same r.equal }
-  element_typed (words_found o s h k as' w xs) = let r = nodes_typed xs same in record { own_type = _; of_type = of_words_alone o s (back (alike_equal h)) (has_kind k) (attributes_typed as') w r.filled tt; equal = in_app same r.equal }
-  element_typed (empty_found o s h k as') = record { own_type = _; of_type = of_empty o s (back (alike_equal h)) (has_kind k) (attributes_typed as') tt; equal = same }
-  element_typed (form_found s h k l as' xs) = let r = nodes_typed xs same in record { own_type = _; of_type = of_form s (back (alike_equal h)) (back (alike_equal k)) (has_kind l) (attributes_typed as') r.filled tt; equal = same }
-  element_typed (input_found s h k l as') = record { own_type = _; of_type = of_input s (back (alike_equal h)) (has_kind k) (has_kind l) (attributes_typed as') tt; equal = same }
-  element_typed (button_found s h k as' a) = record { own_type = _; of_type = of_button s (back (alike_equal h)) (has_kind k) (attributes_typed as') a tt; equal = same }
+  element_typed (holding_found o s i h y k as' xs) = let r = nodes_typed xs same in record { own_type = _; of_type = of_holding o s i (back (alike_equal h)) (has_kind y) (has_kind k) (attributes_typed as') r.filled tt; equal = in_app same r.equal }
+  element_typed (words_found o s h y k as' w xs) = let r = nodes_typed xs same in record { own_type = _; of_type = of_words_alone o s (back (alike_equal h)) (has_kind y) (has_kind k) (attributes_typed as') w r.filled tt; equal = in_app same r.equal }
+  element_typed (empty_found o s h y k as') = record { own_type = _; of_type = of_empty o s (back (alike_equal h)) (has_kind y) (has_kind k) (attributes_typed as') tt; equal = same }
+  element_typed (form_found s h k y l as' xs) = let r = nodes_typed xs same in record { own_type = _; of_type = of_form s (back (alike_equal h)) (back (alike_equal k)) (has_kind y) (has_kind l) (attributes_typed as') r.filled tt; equal = same }
+  element_typed (input_found s h y k l as') = record { own_type = _; of_type = of_input s (back (alike_equal h)) (has_kind y) (has_kind k) (has_kind l) (attributes_typed as') tt; equal = same }
+  element_typed (button_found s h y k as' a) = record { own_type = _; of_type = of_button s (back (alike_equal h)) (has_kind y) (has_kind k) (attributes_typed as') a tt; equal = same }
 
   attributes_typed : {C : CoverAsked} {G : Sc} {u : Cn} {g : TagName} {as' : Ats} → AttributesFound C G u g as' → AttributesTyped (asking_cover C) G u g as'
   attributes_typed no_attribute_found = no_attribute

@@ -171,12 +171,12 @@ mutual
   named_still r s (each_name k e ns) = each_name (kinded_still r k) (typed_still s e) (named_still r s ns)
 
   element_still : {A B : Asks} {R : Scope → Scope → Type 0} {G H : Sc} {m : El} {t : Cn} → Richer A B R G H → ElementTyped A G m t → ElementTyped B H m t
-  element_still r (of_holding o s i h k as' xs x) = of_holding o s i h (kinded_still r k) (attributes_still r as') (nodes_still r xs) (exchanged r x)
-  element_still r (of_words_alone o s h k as' w xs x) = of_words_alone o s h (kinded_still r k) (attributes_still r as') w (nodes_still r xs) (exchanged r x)
-  element_still r (of_empty o s h k as' x) = of_empty o s h (kinded_still r k) (attributes_still r as') (exchanged r x)
-  element_still r (of_form s h k l as' xs x) = of_form s h k (kinded_still r l) (attributes_still r as') (nodes_still r xs) (exchanged r x)
-  element_still r (of_input s h k l as' x) = of_input s h (kinded_still r k) (kinded_still r l) (attributes_still r as') (exchanged r x)
-  element_still r (of_button s h k as' a x) = of_button s h (kinded_still r k) (attributes_still r as') a (exchanged r x)
+  element_still r (of_holding o s i h y k as' xs x) = of_holding o s i h (kinded_still r y) (kinded_still r k) (attributes_still r as') (nodes_still r xs) (exchanged r x)
+  element_still r (of_words_alone o s h y k as' w xs x) = of_words_alone o s h (kinded_still r y) (kinded_still r k) (attributes_still r as') w (nodes_still r xs) (exchanged r x)
+  element_still r (of_empty o s h y k as' x) = of_empty o s h (kinded_still r y) (kinded_still r k) (attributes_still r as') (exchanged r x)
+  element_still r (of_form s h k y l as' xs x) = of_form s h k (kinded_still r y) (kinded_still r l) (attributes_still r as') (nodes_still r xs) (exchanged r x)
+  element_still r (of_input s h y k l as' x) = of_input s h (kinded_still r y) (kinded_still r k) (kinded_still r l) (attributes_still r as') (exchanged r x)
+  element_still r (of_button s h y k as' a x) = of_button s h (kinded_still r y) (kinded_still r k) (attributes_still r as') a (exchanged r x)
 
   attributes_still : {A B : Asks} {R : Scope → Scope → Type 0} {G H : Sc} {u : Cn} {g : TagName} {as' : Ats} → Richer A B R G H → AttributesTyped A G u g as' → AttributesTyped B H u g as'
   attributes_still r no_attribute = no_attribute

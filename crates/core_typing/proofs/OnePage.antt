@@ -99,7 +99,7 @@ pub accepted : OnePageIsAccepted
 accepted = record {
   formed = record { texts = refl; differ = names_differ; plain = all_plain_by_test one_page.names refl; plain_modules = all_plain_by_test one_page.modules refl; located = located; names_begin_none = begins_none; symbols = distinct; folders = no_folders; leaves = ((omega arith, page_names, term_fits), tt); exported = exported };
   typed = a_val (of_app (of_basic refl) page_kinded)
-      (of_call of_basis (to_con page_kinded (to_term (of_element (of_holding false refl tt same no_types_kinded no_attribute no_node tt)) to_nothing))) no_decls;
+      (of_call of_basis (to_con page_kinded (to_term (of_element (of_holding false refl tt same html_kinded no_types_kinded no_attribute no_node tt)) to_nothing))) no_decls;
   entries = differ;
 }
 

@@ -172,32 +172,32 @@ mutual
   one_scope (rec_found ns ls) (rec_found ms ks) = one_scope ls ks
 
   one_element : {C D : CoverAsked} {G : Sc} {m : El} {t u : Cn} → ElementFound C G m t → ElementFound D G m u → t ≡ u
-  one_element (holding_found o {c = c} {u = u} s i h k as' xs) (holding_found o2 s2 i2 h2 k2 bs xs2) = ap (xml_of c u) (one_nodes xs xs2)
-  one_element (holding_found o s i h k as' xs) (words_found o2 s2 h2 k2 bs w2 xs2) = absurd (other_sort s s2 tt)
-  one_element (holding_found o s i h k as' xs) (empty_found o2 s2 h2 k2 bs) = absurd (other_sort s s2 tt)
-  one_element (holding_found o s i h k as' xs) (form_found s2 h2 k2 l2 bs xs2) = absurd (other_sort s s2 tt)
-  one_element (holding_found o s i h k as' xs) (button_found s2 h2 k2 bs a2) = absurd (other_sort s s2 tt)
-  one_element (words_found o s h k as' w xs) (holding_found o2 s2 i2 h2 k2 bs xs2) = absurd (other_sort s s2 tt)
-  one_element (words_found o {c = c} {u = u} s h k as' w xs) (words_found o2 s2 h2 k2 bs w2 xs2) = ap (xml_of c u) (one_nodes xs xs2)
-  one_element (words_found o s h k as' w xs) (empty_found o2 s2 h2 k2 bs) = absurd (other_sort s s2 tt)
-  one_element (words_found o s h k as' w xs) (form_found s2 h2 k2 l2 bs xs2) = absurd (other_sort s s2 tt)
-  one_element (words_found o s h k as' w xs) (button_found s2 h2 k2 bs a2) = absurd (other_sort s s2 tt)
-  one_element (empty_found o s h k as') (holding_found o2 s2 i2 h2 k2 bs xs2) = absurd (other_sort s s2 tt)
-  one_element (empty_found o s h k as') (words_found o2 s2 h2 k2 bs w2 xs2) = absurd (other_sort s s2 tt)
-  one_element (empty_found o s h k as') (empty_found o2 s2 h2 k2 bs) = refl
-  one_element (empty_found o s h k as') (form_found s2 h2 k2 l2 bs xs2) = absurd (other_sort s s2 tt)
-  one_element (empty_found o s h k as') (button_found s2 h2 k2 bs a2) = absurd (other_sort s s2 tt)
-  one_element (form_found s h k l as' xs) (holding_found o2 s2 i2 h2 k2 bs xs2) = absurd (other_sort s s2 tt)
-  one_element (form_found s h k l as' xs) (words_found o2 s2 h2 k2 bs w2 xs2) = absurd (other_sort s s2 tt)
-  one_element (form_found s h k l as' xs) (empty_found o2 s2 h2 k2 bs) = absurd (other_sort s s2 tt)
-  one_element (form_found s h k l as' xs) (form_found s2 h2 k2 l2 bs xs2) = refl
-  one_element (form_found s h k l as' xs) (button_found s2 h2 k2 bs a2) = absurd (other_sort s s2 tt)
-  one_element (button_found s h k as' a) (holding_found o2 s2 i2 h2 k2 bs xs2) = absurd (other_sort s s2 tt)
-  one_element (button_found s h k as' a) (words_found o2 s2 h2 k2 bs w2 xs2) = absurd (other_sort s s2 tt)
-  one_element (button_found s h k as' a) (empty_found o2 s2 h2 k2 bs) = absurd (other_sort s s2 tt)
-  one_element (button_found s h k as' a) (form_found s2 h2 k2 l2 bs xs2) = absurd (other_sort s s2 tt)
-  one_element (button_found s h k as' a) (button_found s2 h2 k2 bs a2) = refl
-  one_element (input_found {n = n} {c = c} {u = u} s h k l as') (input_found s2 h2 k2 l2 bs) = ap (λ x. xml_of c u (one_field n x)) (input_type s s2)
+  one_element (holding_found o {c = c} {u = u} s i h y k as' xs) (holding_found o2 s2 i2 h2 y2 k2 bs xs2) = ap (xml_of c u) (one_nodes xs xs2)
+  one_element (holding_found o s i h y k as' xs) (words_found o2 s2 h2 y2 k2 bs w2 xs2) = absurd (other_sort s s2 tt)
+  one_element (holding_found o s i h y k as' xs) (empty_found o2 s2 h2 y2 k2 bs) = absurd (other_sort s s2 tt)
+  one_element (holding_found o s i h y k as' xs) (form_found s2 h2 k2 y2 l2 bs xs2) = absurd (other_sort s s2 tt)
+  one_element (holding_found o s i h y k as' xs) (button_found s2 h2 y2 k2 bs a2) = absurd (other_sort s s2 tt)
+  one_element (words_found o s h y k as' w xs) (holding_found o2 s2 i2 h2 y2 k2 bs xs2) = absurd (other_sort s s2 tt)
+  one_element (words_found o {c = c} {u = u} s h y k as' w xs) (words_found o2 s2 h2 y2 k2 bs w2 xs2) = ap (xml_of c u) (one_nodes xs xs2)
+  one_element (words_found o s h y k as' w xs) (empty_found o2 s2 h2 y2 k2 bs) = absurd (other_sort s s2 tt)
+  one_element (words_found o s h y k as' w xs) (form_found s2 h2 k2 y2 l2 bs xs2) = absurd (other_sort s s2 tt)
+  one_element (words_found o s h y k as' w xs) (button_found s2 h2 y2 k2 bs a2) = absurd (other_sort s s2 tt)
+  one_element (empty_found o s h y k as') (holding_found o2 s2 i2 h2 y2 k2 bs xs2) = absurd (other_sort s s2 tt)
+  one_element (empty_found o s h y k as') (words_found o2 s2 h2 y2 k2 bs w2 xs2) = absurd (other_sort s s2 tt)
+  one_element (empty_found o s h y k as') (empty_found o2 s2 h2 y2 k2 bs) = refl
+  one_element (empty_found o s h y k as') (form_found s2 h2 k2 y2 l2 bs xs2) = absurd (other_sort s s2 tt)
+  one_element (empty_found o s h y k as') (button_found s2 h2 y2 k2 bs a2) = absurd (other_sort s s2 tt)
+  one_element (form_found s h k y l as' xs) (holding_found o2 s2 i2 h2 y2 k2 bs xs2) = absurd (other_sort s s2 tt)
+  one_element (form_found s h k y l as' xs) (words_found o2 s2 h2 y2 k2 bs w2 xs2) = absurd (other_sort s s2 tt)
+  one_element (form_found s h k y l as' xs) (empty_found o2 s2 h2 y2 k2 bs) = absurd (other_sort s s2 tt)
+  one_element (form_found s h k y l as' xs) (form_found s2 h2 k2 y2 l2 bs xs2) = refl
+  one_element (form_found s h k y l as' xs) (button_found s2 h2 y2 k2 bs a2) = absurd (other_sort s s2 tt)
+  one_element (button_found s h y k as' a) (holding_found o2 s2 i2 h2 y2 k2 bs xs2) = absurd (other_sort s s2 tt)
+  one_element (button_found s h y k as' a) (words_found o2 s2 h2 y2 k2 bs w2 xs2) = absurd (other_sort s s2 tt)
+  one_element (button_found s h y k as' a) (empty_found o2 s2 h2 y2 k2 bs) = absurd (other_sort s s2 tt)
+  one_element (button_found s h y k as' a) (form_found s2 h2 k2 y2 l2 bs xs2) = absurd (other_sort s s2 tt)
+  one_element (button_found s h y k as' a) (button_found s2 h2 y2 k2 bs a2) = refl
+  one_element (input_found {n = n} {c = c} {u = u} s h y k l as') (input_found s2 h2 y2 k2 l2 bs) = ap (λ x. xml_of c u (one_field n x)) (input_type s s2)
 
   pub one_nodes : {C D : CoverAsked} {G : Sc} {c d u v b k : Cn} {xs : Xs} → NodesFound C G c u xs b → NodesFound D G d v xs k → b ≡ k
   one_nodes no_node_found no_node_found = refl

@@ -312,6 +312,7 @@ element_differs (own.form_in_form s w) = wants_differ w
 element_differs (own.input_outside s w) = wants_differ w
 element_differs (own.button_outside s w) = wants_differ w
 element_differs (own.form_filled_before s w) = wants_differ w
+element_differs (own.context_kind k) = kind_differs k
 element_differs (own.uses_kind k) = kind_differs k
 element_differs (own.in_attributes h) = attribute_differs h
 element_differs (own.same_attribute h) = twice_differs h

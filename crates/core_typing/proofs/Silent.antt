@@ -78,18 +78,18 @@ part_found tells.left (concat_has {t = t} e d n m h) = (t, e)
 part_found tells.right (concat_has {u = u} e d n m h) = (u, d)
 part_found tells.cut_from (without_has {t = t} e n k h) = (t, e)
 part_found tells.row_cut_from (without_row_has {t = t} e n k h) = (t, e)
-part_found (tells.attribute_term i) (element_has (holding_found o s h a k as' xs)) = attribute_in i as'
-part_found (tells.attribute_term i) (element_has (words_found o s h k as' w xs)) = attribute_in i as'
-part_found (tells.attribute_term i) (element_has (empty_found o s h k as')) = attribute_in i as'
-part_found (tells.attribute_term i) (element_has (form_found s h k l as' xs)) = attribute_in i as'
-part_found (tells.attribute_term i) (element_has (input_found s h k l as')) = attribute_in i as'
-part_found (tells.attribute_term i) (element_has (button_found s h k as' a)) = attribute_in i as'
-part_found (tells.inner_node i) (element_has (holding_found o s h a k as' xs)) = node_in i xs
-part_found (tells.inner_node i) (element_has (words_found o s h k as' w xs)) = node_in i xs
-part_found (tells.inner_node i) (element_has (empty_found o s h k as')) = elim i [ ]
-part_found (tells.inner_node i) (element_has (form_found s h k l as' xs)) = node_in i xs
-part_found (tells.inner_node i) (element_has (input_found s h k l as')) = elim i [ ]
-part_found (tells.inner_node i) (element_has (button_found s h k as' a)) = elim i [ ]
+part_found (tells.attribute_term i) (element_has (holding_found o s h a y k as' xs)) = attribute_in i as'
+part_found (tells.attribute_term i) (element_has (words_found o s h y k as' w xs)) = attribute_in i as'
+part_found (tells.attribute_term i) (element_has (empty_found o s h y k as')) = attribute_in i as'
+part_found (tells.attribute_term i) (element_has (form_found s h k y l as' xs)) = attribute_in i as'
+part_found (tells.attribute_term i) (element_has (input_found s h y k l as')) = attribute_in i as'
+part_found (tells.attribute_term i) (element_has (button_found s h y k as' a)) = attribute_in i as'
+part_found (tells.inner_node i) (element_has (holding_found o s h a y k as' xs)) = node_in i xs
+part_found (tells.inner_node i) (element_has (words_found o s h y k as' w xs)) = node_in i xs
+part_found (tells.inner_node i) (element_has (empty_found o s h y k as')) = elim i [ ]
+part_found (tells.inner_node i) (element_has (form_found s h k y l as' xs)) = node_in i xs
+part_found (tells.inner_node i) (element_has (input_found s h y k l as')) = elim i [ ]
+part_found (tells.inner_node i) (element_has (button_found s h y k as' a)) = elim i [ ]
 part_found (tells.literal_node i) (literal_has k l xs) = node_in i xs
 part_found (tells.sql_term i) h = elim h [ ]
 

@@ -98,12 +98,12 @@ rest_in : {G : Scope} {c r : Cn} → Kinded G (cat c r) (row_of types) → Kinde
 rest_in (of_cat c r a) = r
 
 element_kind : {G : Sc} {m : El} {t : Cn} → ElementTyped kinds_asked G m t → Kinded G.kinds t types
-element_kind (of_holding o s i h k as' xs x) = x
-element_kind (of_words_alone o s h k as' q xs x) = x
-element_kind (of_empty o s h k as' x) = x
-element_kind (of_form s h e k as' xs x) = x
-element_kind (of_input s h k i as' x) = x
-element_kind (of_button s h k as' a x) = x
+element_kind (of_holding o s i h y k as' xs x) = x
+element_kind (of_words_alone o s h y k as' q xs x) = x
+element_kind (of_empty o s h y k as' x) = x
+element_kind (of_form s h e y k as' xs x) = x
+element_kind (of_input s h y k i as' x) = x
+element_kind (of_button s h y k as' a x) = x
 
 pub basics : {G : Sc} → HasTypes G → Basics G.kinds.basics
 basics h = record { basis = h.grounded.basis; bools = h.grounded.bools; options = h.grounded.options; lists = h.grounded.lists }

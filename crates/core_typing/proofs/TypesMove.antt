@@ -254,21 +254,21 @@ mutual
   named_move g w s (each_name k e ns) = each_name (kinds_move g w k) (typed_moves g s e) (named_move g w s ns)
 
   element_moves : {A : Asks} {I : Scope → Cn → Kd → Type 0} {f : ℕ → ℕ → Cn} {n : ℕ} {G H : Sc} {m : El} {t : Cn} → Goes A I f → Walked I f n G H → ElementTyped A G m t → ElementTyped A H (element_replaced f m n) (replaced f t n)
-  element_moves {f = f} {n = n} g w (of_holding {g = tag} {w = v} o s i h k as' xs x) =
-      of_holding o s i (equal_context g.walks n (stands tag) o h) (kinds_move g w k) (attributes_move g w as') (in_context f n v o (nodes_move g w xs)) (g.exchange w.kinds x)
-  element_moves {f = f} {n = n} g w (of_words_alone {g = tag} o {xs = ns} s h k as' q xs x) =
-      of_words_alone o s (equal_context g.walks n (stands tag) o h) (kinds_move g w k) (attributes_move g w as') (nodes_are_words_move f ns n q) (in_context f n (stands tag) o (nodes_move g w xs)) (g.exchange w.kinds x)
-  element_moves {n = n} g w (of_empty {g = tag} o s h k as' x) =
-      of_empty o s (equal_context g.walks n (stands tag) o h) (kinds_move g w k) (attributes_move g w as') (g.exchange w.kinds x)
-  element_moves {f = f} {n = n} g w (of_form s h e k as' xs x) =
-      of_form s (equal_context g.walks n in_body false h) (g.walks.equal e n) (kinds_move g w k) (attributes_move g w as') (in_context f n in_body true (nodes_move g w xs)) (g.exchange w.kinds x)
-  element_moves {A} {f = f} {n = n} {H = H} {m = m} g w (of_input {g = tag} {t = t} {n = l} {c = c} {u = u} s h k i as' x) =
+  element_moves {f = f} {n = n} g w (of_holding {g = tag} {w = v} o s i h y k as' xs x) =
+      of_holding o s i (equal_context g.walks n (stands tag) o h) (kinds_move g w y) (kinds_move g w k) (attributes_move g w as') (in_context f n v o (nodes_move g w xs)) (g.exchange w.kinds x)
+  element_moves {f = f} {n = n} g w (of_words_alone {g = tag} o {xs = ns} s h y k as' q xs x) =
+      of_words_alone o s (equal_context g.walks n (stands tag) o h) (kinds_move g w y) (kinds_move g w k) (attributes_move g w as') (nodes_are_words_move f ns n q) (in_context f n (stands tag) o (nodes_move g w xs)) (g.exchange w.kinds x)
+  element_moves {n = n} g w (of_empty {g = tag} o s h y k as' x) =
+      of_empty o s (equal_context g.walks n (stands tag) o h) (kinds_move g w y) (kinds_move g w k) (attributes_move g w as') (g.exchange w.kinds x)
+  element_moves {f = f} {n = n} g w (of_form s h e y k as' xs x) =
+      of_form s (equal_context g.walks n in_body false h) (g.walks.equal e n) (kinds_move g w y) (kinds_move g w k) (attributes_move g w as') (in_context f n in_body true (nodes_move g w xs)) (g.exchange w.kinds x)
+  element_moves {A} {f = f} {n = n} {H = H} {m = m} g w (of_input {g = tag} {t = t} {n = l} {c = c} {u = u} s h y k i as' x) =
       let stays = field_of f n tag t s in
       let result : Cn → Cn = λ y. xml_of (replaced f c n) (replaced f u n) (one_field (replaced f l n) y) in
       subst (λ y. ElementTyped A H (element_replaced f m n) (result y)) (sym stays)
-      (of_input s (equal_context g.walks n in_body true h) (kinds_move g w k) (kinds_move g w i) (attributes_move g w as') (subst (λ y. A.exchange H.kinds (result y)) stays (g.exchange w.kinds x)))
-  element_moves {f = f} {n = n} g w (of_button s h k as' a x) =
-      of_button s (equal_context g.walks n in_body true h) (kinds_move g w k) (attributes_move g w as') (has_moves f n a) (g.exchange w.kinds x)
+      (of_input s (equal_context g.walks n in_body true h) (kinds_move g w y) (kinds_move g w k) (kinds_move g w i) (attributes_move g w as') (subst (λ y. A.exchange H.kinds (result y)) stays (g.exchange w.kinds x)))
+  element_moves {f = f} {n = n} g w (of_button s h y k as' a x) =
+      of_button s (equal_context g.walks n in_body true h) (kinds_move g w y) (kinds_move g w k) (attributes_move g w as') (has_moves f n a) (g.exchange w.kinds x)
 
   attributes_move : {A : Asks} {I : Scope → Cn → Kd → Type 0} {f : ℕ → ℕ → Cn} {n : ℕ} {G H : Sc} {u : Cn} {tag : TagName} {as' : Ats} → Goes A I f → Walked I f n G H → AttributesTyped A G u tag as' → AttributesTyped A H (replaced f u n) tag (attributes_replaced f as' n)
   attributes_move g w no_attribute = no_attribute

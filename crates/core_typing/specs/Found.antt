@@ -216,6 +216,7 @@ mutual
         → sort_of g ≡ holding w
         → MayBeInForm (stands g) o
         → Alike (context_row (stands g) o) c
+        → HasKind G c (row_of units)
         → HasKind G u (row_of types)
         → AttributesFound C G u g as'
         → NodesFound C G (context_row w o) u xs b
@@ -224,6 +225,7 @@ mutual
     words_found : {G : Sc} {g : TagName} (o : Bool) {c u b : Cn} {as' : Ats} {xs : Xs}
         → sort_of g ≡ of_words
         → Alike (context_row (stands g) o) c
+        → HasKind G c (row_of units)
         → HasKind G u (row_of types)
         → AttributesFound C G u g as'
         → NodesAreWords xs
@@ -233,6 +235,7 @@ mutual
     empty_found : {G : Sc} {g : TagName} (o : Bool) {c u : Cn} {as' : Ats}
         → sort_of g ≡ empty
         → Alike (context_row (stands g) o) c
+        → HasKind G c (row_of units)
         → HasKind G u (row_of types)
         → AttributesFound C G u g as'
         → ElementFound C G (tagged g None c u as' no_nodes) (xml_of c u no_types)
@@ -241,6 +244,7 @@ mutual
         → sort_of g ≡ a_form
         → Alike (context_row in_body false) c
         → Alike no_types u
+        → HasKind G c (row_of units)
         → HasKind G u (row_of types)
         → AttributesFound C G u g as'
         → NodesFound C G (context_row in_body true) no_types xs b
@@ -249,6 +253,7 @@ mutual
     input_found : {G : Sc} {g : TagName} {at : Place} {t n c u : Cn} {as' : Ats}
         → sort_of g ≡ an_input t
         → Alike (context_row in_body true) c
+        → HasKind G c (row_of units)
         → HasKind G u (row_of types)
         → HasKind G n names
         → AttributesFound C G u g as'
@@ -257,6 +262,7 @@ mutual
     button_found : {G : Sc} {g : TagName} {c u : Cn} {as' : Ats}
         → sort_of g ≡ a_button
         → Alike (context_row in_body true) c
+        → HasKind G c (row_of units)
         → HasKind G u (row_of types)
         → AttributesFound C G u g as'
         → HasAttribute as' attr.Action

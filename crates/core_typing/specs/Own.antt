@@ -36,7 +36,7 @@
 --   its kind has a folder: of none; at the node
 --   the row's kind: of none; at the node
 -- element
---   where it stands: of none; at the node
+--   where it stands, and the kinds of its rows: of none; at the node
 --   an attribute is one of the tag's: of none; at the attribute's name
 --   it has its type: of the attribute's term; at that term
 --   it is a call, where it is a link or an action: of the attribute's term; at the attribute's name
@@ -479,6 +479,10 @@ pub data ElementFault : Sc → Place → El → Fault → Type 0 where
       {f : Fault}
       → sort_of g ≡ a_form
       → Wants G p no_types u f
+      → ElementFault G p (tagged g n c u as' xs) f
+  context_kind : {G : Sc} {p : Place} {g : TagName} {n : Option (Place × Cn)} {c u : Cn} {as' : Ats} {xs : Xs}
+      {f : Fault}
+      → LacksKind G p c (row_of units) f
       → ElementFault G p (tagged g n c u as' xs) f
   uses_kind : {G : Sc} {p : Place} {g : TagName} {n : Option (Place × Cn)} {c u : Cn} {as' : Ats} {xs : Xs}
       {f : Fault}

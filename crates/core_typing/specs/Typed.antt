@@ -287,6 +287,7 @@ mutual
         → sort_of g ≡ holding w
         → MayBeInForm (stands g) o
         → Equal c (context_row (stands g) o)
+        → Kinded G.kinds c (row_of units)
         → Kinded G.kinds u (row_of types)
         → AttributesTyped A G u g as'
         → NodesTyped A G (context_row w o) u xs b
@@ -296,6 +297,7 @@ mutual
     of_words_alone : {G : Sc} {g : TagName} (o : Bool) {c u b : Cn} {as' : Ats} {xs : Xs}
         → sort_of g ≡ of_words
         → Equal c (context_row (stands g) o)
+        → Kinded G.kinds c (row_of units)
         → Kinded G.kinds u (row_of types)
         → AttributesTyped A G u g as'
         → NodesAreWords xs
@@ -306,6 +308,7 @@ mutual
     of_empty : {G : Sc} {g : TagName} (o : Bool) {c u : Cn} {as' : Ats}
         → sort_of g ≡ empty
         → Equal c (context_row (stands g) o)
+        → Kinded G.kinds c (row_of units)
         → Kinded G.kinds u (row_of types)
         → AttributesTyped A G u g as'
         → A.exchange G.kinds (xml_of c u no_types)
@@ -315,6 +318,7 @@ mutual
         → sort_of g ≡ a_form
         → Equal c (context_row in_body false)
         → Equal u no_types
+        → Kinded G.kinds c (row_of units)
         → Kinded G.kinds u (row_of types)
         → AttributesTyped A G u g as'
         → NodesTyped A G (context_row in_body true) no_types xs b
@@ -324,6 +328,7 @@ mutual
     of_input : {G : Sc} {g : TagName} {at : Place} {t n c u : Cn} {as' : Ats}
         → sort_of g ≡ an_input t
         → Equal c (context_row in_body true)
+        → Kinded G.kinds c (row_of units)
         → Kinded G.kinds u (row_of types)
         → Kinded G.kinds n names
         → AttributesTyped A G u g as'
@@ -333,6 +338,7 @@ mutual
     of_button : {G : Sc} {g : TagName} {c u : Cn} {as' : Ats}
         → sort_of g ≡ a_button
         → Equal c (context_row in_body true)
+        → Kinded G.kinds c (row_of units)
         → Kinded G.kinds u (row_of types)
         → AttributesTyped A G u g as'
         → HasAttribute as' attr.Action
