@@ -185,7 +185,7 @@ linked_out : {G : Sc} {p : Place} {n : AttrName} {t v : Cn} {e : Ex} {f : Fault}
 linked_out (own.link_calls_none none) h a (as_link c i s) = none (is_call c)
 linked_out (own.action_calls_none none) h a (as_action c i s) = none (is_call c)
 linked_out (own.link_lacks c g none m) h a l = none (alike_found g h a)
-linked_out (own.action_has_all c g none m d) h a l = none (alike_found g h a)
+linked_out (own.action_has_all c g none m d x) h a l = none (alike_found g h a)
 linked_out (own.action_lacks c g none m n) h a l = none (alike_found g h a)
 linked_out (own.cannot_travel c g none m x) h a l = none (alike_found g h a)
 linked_out (own.not_carried c g b none) h a l = none l

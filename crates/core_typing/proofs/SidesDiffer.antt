@@ -239,7 +239,7 @@ linked_differs : {G : Sc} {p : Place} {n : AttrName} {t : Cn} {e : Ex} {f : Faul
 linked_differs (own.link_calls_none h) = tt
 linked_differs (own.action_calls_none h) = tt
 linked_differs (own.link_lacks c e a n) = tt
-linked_differs (own.action_has_all c e a n h) = tt
+linked_differs (own.action_has_all c e a n h x) = tt
 linked_differs (own.action_lacks c e a n m) = tt
 linked_differs (own.cannot_travel c e a m h) = tt
 linked_differs (own.not_carried c e a h) = tt

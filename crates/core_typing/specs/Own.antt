@@ -47,7 +47,7 @@
 --   its nodes: of the node, or those behind it; at the node in it
 -- SQL
 --   there is a rule for it: of none; at the node
-use Rattle.std.specs.Prelude.{◌≡◌, ℕ, ◌<◌, Bool, true, false, List, [], ◌∷◌, Option, Some, None, Err, slice_get}
+use Rattle.std.specs.Prelude.{◌≡◌, ℕ, ◌<◌, Bool, true, false, List, [], ◌∷◌, Option, Some, None, Err, slice_get, ◌⊎◌}
 use Rattle.con_terms.specs.Trees.{Kd, types, units, names, row_of, Cn, basic, arrow, poly, guarded, record_of, unit_con, row, cat, Prs, no_pairs}
 use Rattle.con_terms.specs.Substitution.{subst}
 use Rattle.con_terms.specs.declared.place.Place.{Place}
@@ -130,6 +130,10 @@ IsPoly n = (i : Bool) × (k : Kd) × (t : Cn) × (n ≡ poly i k t)
 abbrev pub IsGuarded : Cn → Type 0
 IsGuarded n = (c : Cn) × (d : Cn) × (t : Cn) × (n ≡ guarded c d t)
 
+-- a function of a constructor or of a guard's proof
+abbrev pub IsGeneric : Cn → Type 0
+IsGeneric n = IsPoly n ⊎ IsGuarded n
+
 abbrev pub IsRecord : Cn → Type 0
 IsRecord n = (r : Cn) × (n ≡ record_of r)
 
@@ -179,22 +183,27 @@ pub data CallsTop : Ex → Type 0 where
   top_called : {p q : Place} {a b : Bool} {i : ℕ} {s : Sigil} {is : Its}
       → CallsTop (node p a (call (node q b (top i)) s is))
 
--- the arguments of a link's call travel, and those and the form of an action's, whatever the function gives
+-- The arguments of a link's call travel, and those and the form of an action's, whatever the function gives; and it
+-- has no parameter that is a constructor or a guard, so that what is behind them is no function of one.
 pub data Travels : Sc → AttrName → Ex → Type 0 where
-  link_travels : {G : Sc} {e : Ex} {i n : ℕ} {t u : Cn}
+  link_travels : {G : Sc} {e : Ex} {i n : ℕ} {t u m : Cn}
       → IsCallOf e i n
       → slice_get G.tops i ≡ Some t
       → CarriesTo G.datatypes n t u
+      → normal_of u ≡ Some m
+      → (IsGeneric m → ⊥)
       → Travels G attr.Link e
-  action_travels : {G : Sc} {e : Ex} {i n : ℕ} {t u a b : Cn}
+  action_travels : {G : Sc} {e : Ex} {i n : ℕ} {t u a b m : Cn}
       → IsCallOf e i n
       → slice_get G.tops i ≡ Some t
       → CarriesTo G.datatypes n t u
       → normal_of u ≡ Some (arrow a b)
       → Filled a
+      → normal_of b ≡ Some m
+      → (IsGeneric m → ⊥)
       → Travels G attr.Action e
 
--- a link lacks no argument, and an action the form alone
+-- a link lacks no argument, and an action the form alone; or what is lacked next is a constructor or a guard
 pub data AsCalled : AttrName → Cn → Type 0 where
   as_a_link : {v n : Cn}
       → normal_of v ≡ Some n
@@ -205,11 +214,15 @@ pub data AsCalled : AttrName → Cn → Type 0 where
       → normal_of b ≡ Some n
       → (IsFunction n → ⊥)
       → AsCalled attr.Action v
+  as_a_generic : {v n : Cn}
+      → normal_of v ≡ Some n
+      → IsGeneric n
+      → AsCalled attr.Action v
 
 -- What a link or an action of a type breaks: it isn't such a call; it has another type, since a link lacks arguments,
 -- or an action lacks more than the form or has it already; it has another type all the same, and its arguments don't
--- travel either, so that the earlier place counts; or it has its type, and constructors, guards or types stand in the
--- way of carrying the arguments.
+-- travel either, or its function has parameters that are constructors or guards, so that the earlier place counts; or
+-- it has its type, and constructors, guards or types stand in the way of carrying the arguments.
 pub data NotLinked : Sc → Place → AttrName → Cn → Ex → Fault → Type 0 where
   link_calls_none : {G : Sc} {p : Place} {t : Cn} {e : Ex}
       → (CallsTop e → ⊥)
@@ -229,6 +242,7 @@ pub data NotLinked : Sc → Place → AttrName → Cn → Ex → Fault → Type 
       → (Alike t v → ⊥)
       → normal_of v ≡ Some n
       → (IsFunction n → ⊥)
+      → (IsGeneric n → ⊥)
       → NotLinked G p attr.Action t e (link_not_call p)
   action_lacks : {G : Sc} {p : Place} {t v a b c d : Cn} {e : Ex}
       → CallsTop e
