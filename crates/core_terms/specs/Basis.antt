@@ -68,7 +68,7 @@ basis_type Join =
     poly true (row_of units) (poly true (row_of types) (poly true (row_of types) (poly true (row_of types)
     (guarded (var 2) (var 1) (guarded (var 1) (var 0)
     (function (xml_of (var 3) (var 2) (var 1) ∷ xml_of (var 3) (cat (var 2) (var 1)) (var 0)
-        ∷ []) (xml_of (var 3) (var 2) (cat (var 1) (var 0)))))))))
+    ∷ []) (xml_of (var 3) (var 2) (cat (var 1) (var 0)))))))))
 basis_type Bless = arrow string_type url_type
 -- ts ::: {{Type}} -> es ::: {Type} -> [ts ~ es] => s ::: Type ->
 -- sql_query ts es -> ($(es ++ map (fn f :: {Type} => $f) ts) -> s -> transaction s) -> s -> transaction s
