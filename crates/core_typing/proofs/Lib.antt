@@ -3,6 +3,8 @@ pub mod ExampleFaults
 pub mod ExampleClash
 pub mod ExampleCover
 pub mod ExampleFields
+pub mod ExampleElements
+pub mod ExampleSequence
 pub mod Differing
 pub mod OnePage
 pub mod Normal

@@ -6,11 +6,11 @@ use Rattle.core_terms.specs.declared.basis.BasisName.TheVariants.{Return}
 use Rattle.xml_trees.specs.declared.source_name.TagName.TheVariants as word
 use Rattle.core_terms.specs.Names.{basis_texts}
 use Rattle.core_terms.specs.Types.{no_types, page_type, transaction_of}
-use Rattle.core_terms.specs.Trees.{Ex, basis, call, element, no_items, with_term, tagged, no_attributes, no_nodes, val, Pg}
+use Rattle.core_terms.specs.Trees.{Ex, basis, call, element, no_items, with_term, tagged, no_attributes, no_nodes, a_sequence, val, thing, Pg}
 use Rattle.core_typing.specs.Accepts.{Accepts}
-use Rattle.core_typing.specs.Faults.{not_disjoint}
+use Rattle.core_typing.specs.Faults.{not_disjoint, not_built}
 use Rattle.core_typing.specs.Tells.{ProgramTells}
-use Rattle.core_typing.specs.ExampleTerms.{byte, said, with_added, in_html_row, a_name, x_name, example_texts, clashing}
+use Rattle.core_typing.specs.ExampleTerms.{byte, said, with_added, in_html_row, a_name, x_name, s_name, example_texts, clashing}
 
 -- <xml><body></body></xml>
 abbrev pub empty_body : Ex
@@ -49,3 +49,19 @@ clashing_program t = record {
 abbrev pub ClashOfProgramIsTold : Type 0
 ClashOfProgramIsTold = (t : Cn)
     → ProgramTells (clashing_program t) (not_disjoint (byte 8) [] (name a_name) (name a_name))
+
+-- sequence s, with some type
+abbrev pub one_sequence : Cn → Pg
+one_sequence t = record {
+  names = example_texts;
+  modules = codes "Main" ∷ [];
+  decls = thing [] (byte 0) s_name a_sequence t ∷ [];
+  rules = [];
+  foreigns = [];
+  folders = [];
+  exports = [];
+}
+
+-- Whatever that type is, told is that it isn't built, at the declaration.
+abbrev pub SequenceIsTold : Type 0
+SequenceIsTold = (t : Cn) → ProgramTells (one_sequence t) (not_built (byte 0))
