@@ -41,7 +41,7 @@ pub record ReadAs (routes : Rts) (post : Bool) (target : List ℕ) (call : Cl) :
 abbrev pub RoutesAreRead : Type 0
 RoutesAreRead = (routes : Rts) (post : Bool) (target : List ℕ) (call : Cl) → AreNamed routes →
     (Route routes post target call → ReadAs routes post target call) ×
-        (ReadAs routes post target call → Route routes post target call)
+    (ReadAs routes post target call → Route routes post target call)
 
 -- At most one call has a path.
 abbrev pub OneCallAtMost : Type 0

@@ -37,19 +37,20 @@ pub refused_line : (bytes rest behind : List ℕ) (said : Said) (number : ℕ) (
 refused_line bytes rest behind said number line read first none =
     let more = lines_of behind
     in subst (λ n. IsRefusedAt bytes (n + 1)) (sym read.3)
-        (at_line read.0 more.0 line said (read.2 (line ∷ more.0) (first more.0 more.1)) read.1 none)
+    (at_line read.0 more.0 line said (read.2 (line ∷ more.0) (first more.0 more.1)) read.1 none)
 
 -- a line that follows
 pub next_line : (bytes rest behind : List ℕ) (said next : Said) (number : ℕ) (line : Line) → Read bytes rest said number
     → ((lines : List Line) → HasLines behind lines → HasLines rest (line ∷ lines))
     → length behind < length rest
     → Follows said line next → Read bytes behind next (number + 1)
-next_line bytes rest behind said next number line read first shorter follows =
-    ( read.0 ++ line ∷ []
-    , one_more nothing_said said next read.0 line read.1 follows
-    , onward bytes rest behind read.0 line read.2 first
-    , ap (λ n. n + 1) read.3 ∙ sym (longer read.0 line)
-    , omega (arith, read.4, shorter))
+next_line bytes rest behind said next number line read first shorter follows = (
+  read.0 ++ line ∷ [],
+  one_more nothing_said said next read.0 line read.1 follows,
+  onward bytes rest behind read.0 line read.2 first,
+  ap (λ n. n + 1) read.3 ∙ sym (longer read.0 line),
+  omega (arith, read.4, shorter),
+)
 
 -- the lines at the end
 at_last : (bytes rest : List ℕ) (said : Said) (number : ℕ) (read : Read bytes rest said number) → rest ≡ [] → HasLines bytes read.0
