@@ -68,10 +68,10 @@ short_project bytes rest said number read none short =
 -- a line that wasn't taken follows to nothing, and one that was taken follows
 pub not_taken : (taken : Bool) (said new : Said) (line text : Line) → taken ≡ false → text ≡ line → told taken new ≡ next said text
     → (t : Said) → Follows said line t → ⊥
-not_taken taken said new line text no same is t f =
-    false≢true (ap is_some (ap (λ b. told b new) (sym no) ∙ is ∙ ap (λ l. next said l) same ∙ f.reads))
+not_taken taken said new line text missed same is t f =
+    false≢true (ap is_some (ap (λ b. told b new) (sym missed) ∙ is ∙ ap (λ l. next said l) same ∙ f.reads))
 
 pub taken_follows : (taken : Bool) (said new : Said) (line text : Line) → taken ≡ true → text ≡ line → IsUtf8 line
     → told taken new ≡ next said text → Follows said line new
-taken_follows taken said new line text yes same utf is =
-    record { is_text = utf; reads = sym (ap (λ b. told b new) (sym yes) ∙ is ∙ ap (λ l. next said l) same) }
+taken_follows taken said new line text kept same utf is =
+    record { is_text = utf; reads = sym (ap (λ b. told b new) (sym kept) ∙ is ∙ ap (λ l. next said l) same) }
