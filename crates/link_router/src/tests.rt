@@ -183,6 +183,14 @@ fn paths_are_read(rt: HostRuntime) -> Result<(), AllocError> {
     Ok(())
 }
 
+/// The length of the link with these arguments to the entry of a path, where the path has one.
+fn length_at(alloc: Global, routes: &Routes, path: &str, wires: &Wires) -> Tested<Option<usize>> {
+    match read_link(alloc, routes, false, &Text::of(alloc, path)?) {
+        Ok(call) => Ok(Some(link_text(alloc, routes, call.entry, wires)?.len())),
+        Err(_) => Ok(None),
+    }
+}
+
 /// A path that repeats a piece.
 fn repeated(alloc: Global, front: &str, piece: &str, times: u32, back: &str) -> Tested<String> {
     let mut path = String::from_str(alloc, front)?;
@@ -217,6 +225,6 @@ fn values_of_any_depth(rt: HostRuntime) -> Result<(), AllocError> {
     }
     let mut wires = Wires::new(alloc);
     wires.push(value)?;
-    assert_eq!(rt; link_text(alloc, &routes, 0, &wires)?.len(), 100010);
+    assert!(rt; length_at(alloc, &routes, "/Main/echo/_", &wires)? == Some(100010));
     Ok(())
 }
