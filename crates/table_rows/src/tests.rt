@@ -1,5 +1,6 @@
 //! Long texts and long lists: that memory serves for them is what no clause can say.
 use super::*;
+use crate::wire::copy_wires;
 use std::alloc::AllocError;
 
 #[test]
