@@ -1,3 +1,5 @@
 pub mod Causes
 pub mod Whole
 pub mod Keeping
+pub mod Files
+pub mod MemFiles

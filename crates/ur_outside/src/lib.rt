@@ -1,9 +1,12 @@
 //! The outside of the program: where bytes come from, where they go, and how often that failed.
 #![tactic(auto)]
 
+pub mod files;
 pub mod kept;
+pub mod mem_files;
 pub mod memory;
 pub mod standard;
+pub mod std_files;
 pub mod whole;
 
 ghost use Rattle.std.specs.Prelude.{ℕ, List, length};
@@ -12,9 +15,12 @@ ghost use Rattle.std.specs.Io.{ReadsAtMost, WritesAtMost};
 ghost use Rattle.std.specs.Io.KnownBytes.{ReadConsumes, WriteAppends};
 ghost use Rattle.ur_outside.specs.Causes.{HasCause, StallsWithCause};
 
+pub use files::{FileFault, Files, Held};
 pub use kept::{Kept, KeptSink, KeptSource};
+pub use mem_files::{MemFile, MemFiles};
 pub use memory::{MemSink, MemSource};
 pub use standard::{StdSink, StdSource};
+pub use std_files::StdFiles;
 pub use whole::{ReadFault, read_up_to, write_all};
 
 /// A call on an object of the outside failed, and the object counted it.

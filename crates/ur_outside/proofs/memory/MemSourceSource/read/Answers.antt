@@ -1,5 +1,5 @@
-use Rattle.std.proofs.Common.{arith, ◌≡◌, ◌≤◌, ◌<◌, [], drop, take, ℕ, ◌+◌, ◌-◌, min, length, List, ◌++◌, length-take, length-drop, length-append, refl, sym, ap, ◌∙◌}
-use Rattle.std.proofs.lemmas.List.{take-append-drop, take-take, drop-drop, take_at, take_all}
+use Rattle.std.proofs.Common.{arith, ◌≡◌, ◌≤◌, ◌<◌, [], drop, take, ℕ, ◌+◌, ◌-◌, min, length, List, ◌++◌, sym, ap, ◌∙◌}
+use Rattle.std.proofs.lemmas.List.{take-append-drop, drop-drop, take_at, take_all}
 use Rattle.std.proofs.Math.ListN.{drop_of_length-le}
 use Rattle.std.proofs.lemmas.Grind.{common_steps}
 use Rattle.ur_outside.proofs.memory.MemSourceSource.read.Goals as goal
