@@ -1,0 +1,14 @@
+//! From the folder of a project to the trees of its modules, or to the first refusal on the way.
+#![tactic(auto)]
+
+pub mod fault;
+pub mod lines;
+pub mod modules;
+pub mod projects;
+pub mod reading;
+#[cfg(test)]
+mod tests;
+
+pub use fault::SourceFault;
+pub use modules::{LONGEST, ModuleSource, interface_of, tree_of};
+pub use projects::{Sources, read_sources};

@@ -1,0 +1,99 @@
+//! Projects in memory, read or refused with their line.
+use super::*;
+use std::alloc::{AllocError, Global};
+use table_rows::{Bytes, Text, Texts};
+use ur_outside::{MemFile, MemFiles};
+
+/// Files by their paths.
+type Folder = &'static [(&'static str, &'static [u8])];
+
+/// Each project in the folder `p`, with the line that refuses it; the empty line stands for none.
+const PROJECTS: [(Folder, &str); 12] = [
+    (&[("p/p.urp", b"\nmain\n"), ("p/main.ur", b"val x = 1")], ""),
+    (
+        &[
+            ("p/p.urp", b"\nmain\n"),
+            ("p/main.ur", b"val x = 1"),
+            ("p/main.urs", b"val x : int"),
+        ],
+        "",
+    ),
+    (&[("q/p.urp", b"\nmain\n")], "p:0: BadProject\n"),
+    (
+        &[("p/a.urp", b"\nmain\n"), ("p/b.urp", b"\nmain\n")],
+        "p:0: BadProject\n",
+    ),
+    (&[("p/p.urp", b"")], "p.urp:1: BadProject\n"),
+    (&[("p/p.urp", b"\nfoo\nmain\n")], "foo.ur: MissingFile\n"),
+    (
+        &[("p/p.urp", b"ffi Other\n\nfoo\n")],
+        "UnknownForeign Other\n",
+    ),
+    (
+        &[("p/p.urp", b"ffi Outbox\n\nfoo\n")],
+        "foo.ur: MissingFile\n",
+    ),
+    (
+        &[("p/p.urp", b"\nmain\n"), ("p/main.ur", b"val x = \xFF")],
+        "main.ur: NotUtf8\n",
+    ),
+    (
+        &[("p/p.urp", b"\nmain\n"), ("p/main.ur", b"val x = ?")],
+        "main.ur:8: BadChar\n",
+    ),
+    (
+        &[("p/p.urp", b"\nmain\n"), ("p/main.ur", b"val x =")],
+        "main.ur:7: Syntax\n",
+    ),
+    (
+        &[
+            ("p/p.urp", b"\nfoo\nmain\n"),
+            ("p/foo.ur", b""),
+            ("p/foo.urs", b"val"),
+            ("p/main.ur", b"val"),
+        ],
+        "foo.urs:3: Syntax\n",
+    ),
+];
+
+/// Files in memory.
+fn folder(alloc: Global, files: Folder, failing: &[u64]) -> Result<MemFiles, AllocError> {
+    let mut made = Vec::new(alloc);
+    for (path, bytes) in files {
+        made.push(MemFile {
+            path: Text::of(alloc, path)?,
+            bytes: Bytes::of(alloc, bytes)?,
+        })?;
+    }
+    Ok(MemFiles::new(made, failing.to_vec(alloc)?))
+}
+
+/// The line that refuses the project in the folder `p`.
+fn line_of(alloc: Global, files: &mut MemFiles) -> Result<String, AllocError> {
+    let mut objects = Texts::new(alloc);
+    objects.push(Text::of(alloc, "Outbox")?)?;
+    match read_sources(alloc, files, "p", &objects) {
+        Ok(_) => "".to_string(alloc),
+        Err(SourceFault::ReadFault) => "failed".to_string(alloc),
+        Err(fault) => fault.line(alloc),
+    }
+}
+
+#[test]
+fn projects_are_read_or_refused_with_their_line(rt: HostRuntime) -> Result<(), AllocError> {
+    for (files, line) in &PROJECTS {
+        let mut files = folder(rt.alloc(), files, &[])?;
+        assert!(rt; line_of(rt.alloc(), &mut files)?.as_str() == *line);
+    }
+    Ok(())
+}
+
+#[test]
+fn failures_of_reading_are_told(rt: HostRuntime) -> Result<(), AllocError> {
+    let (files, _) = PROJECTS[0];
+    for call in 0..4u64 {
+        let mut files = folder(rt.alloc(), files, &[call])?;
+        assert!(rt; line_of(rt.alloc(), &mut files)?.as_str() == "failed");
+    }
+    Ok(())
+}
