@@ -1,0 +1,3 @@
+pub mod Scopes
+pub mod OverPieces
+pub mod OnlyField

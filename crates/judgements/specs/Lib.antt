@@ -1,0 +1,4 @@
+pub mod Bindings
+pub mod Comparisons
+pub mod Pieces
+pub mod View
