@@ -1,0 +1,3 @@
+pub mod Unknowns
+pub mod Slots
+pub mod View
