@@ -23,7 +23,7 @@ fn unbuilt(alloc: Global, tokens: &Tokens) -> ModuleFault
     ensures { IsOtherForm tokens.now result }
 {
     match parse(alloc, tokens) {
-        Ok(_tree) => ModuleFault::NotBuilt,
+        Ok(_tree) => ModuleFault::OtherForm,
         Err(fault) => ModuleFault::from(fault),
     }
 }

@@ -1,0 +1,50 @@
+//! A whole program: kept where no fault is told, given back with the fault where one is.
+ghost use Rattle.std.specs.Prelude.{◌≡◌, IfOk};
+
+use crate::declarations::check_terms;
+use core_terms::Program;
+use std::alloc::{AllocError, Global};
+use type_faults::Fault;
+
+/// A program that is refused, with what is told of it.
+#[derive(Drop)]
+pub struct Refused {
+    pub program: Program,
+    pub fault: Fault,
+}
+
+/// Why a program isn't kept.
+#[derive(Drop)]
+pub enum CheckFault {
+    Refused(Box<Refused>),
+    /// Memory ran out, or a term, a pattern or a type is nested too deep.
+    Memory,
+}
+
+impl From<AllocError> for CheckFault {
+    ghost use Rattle.core_checker.specs.declared.checked.CheckFault.TheVariants.{Memory};
+
+    ghost from_gives = { λ _ e. e ≡ Memory };
+
+    fn from(_error: AllocError) -> CheckFault {
+        CheckFault::Memory
+    }
+}
+
+/// A refusal on the heap.
+fn boxed(alloc: Global, refused: Refused) -> Result<Box<Refused>, AllocError> {
+    Ok(Box::new(alloc, refused)?)
+}
+
+/// The program, where no fault is told of it.
+pub fn checked(alloc: Global, p: Program) -> Result<Program, CheckFault>
+    ensures kept { IfOk result (λ q. q ≡ p) }
+{
+    match check_terms(alloc, &p)? {
+        None => Ok(p),
+        Some(fault) => {
+            let refused = boxed(alloc, Refused { program: p, fault })?;
+            Err(CheckFault::Refused(refused))
+        }
+    }
+}

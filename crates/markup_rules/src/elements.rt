@@ -1,0 +1,82 @@
+//! Elements.
+use crate::attributes::{AttributesFound, attributes_found, stands_before};
+use crate::content::content_found;
+use crate::nodes::{Judgements, NodesFound, told_of};
+use crate::standing::{Stands, element_stands, name_told, rows_told};
+use con_terms::con::Con;
+use con_terms::copy::copy_con;
+use con_terms::place::Place;
+use core_terms::{AttrName, Element};
+use judgements::{Globals, Here, Judged};
+use std::alloc::{AllocError, Global};
+use type_faults::{Fault, first};
+use type_makers::tags::{TagSort, sort_of};
+use type_makers::types::xml_of;
+
+/// What is told of a button without an action.
+fn action_told(p: Place, e: &Element) -> Option<Fault> {
+    match sort_of(e.tag) {
+        TagSort::Button => {
+            if stands_before(&e.attributes, AttrName::Action, e.attributes.items.len()) {
+                None
+            } else {
+                Some(Fault::LinkNotCall(p))
+            }
+        }
+        _ => None,
+    }
+}
+
+/// The type of an element that fills these fields.
+fn element_type(alloc: Global, e: &Element, row: Con) -> Result<Con, AllocError> {
+    let context = copy_con(alloc, &e.context)?;
+    let uses = copy_con(alloc, &e.uses)?;
+    xml_of(alloc, context, uses, row)
+}
+
+/// The type of an element, where nothing of its own is at fault and all its attributes are found.
+fn if_found(
+    alloc: Global,
+    e: &Element,
+    found: bool,
+    own: &Option<Fault>,
+    row: Option<Con>,
+) -> Result<Option<Con>, AllocError> {
+    if !found || own.is_some() {
+        return Ok(None);
+    }
+    match row {
+        None => Ok(None),
+        Some(row) => Ok(Some(element_type(alloc, e, row)?)),
+    }
+}
+
+/// `<tag ..>..</tag>`, from what is found for its attributes and for its nodes.
+pub fn of_element(
+    alloc: Global,
+    g: &Globals,
+    s: &Here,
+    p: Place,
+    e: &Element,
+    attributes: Judgements,
+    nodes: Judgements,
+) -> Result<Judged, AllocError> {
+    let Stands {
+        around,
+        told: standing,
+    } = element_stands(alloc, g, s, p, e)?;
+    let rows = rows_told(alloc, g, s, p, e)?;
+    let name = name_told(alloc, g, s, p, e)?;
+    let AttributesFound {
+        found,
+        own: of_attributes,
+    } = attributes_found(alloc, g, s, e.tag, &e.uses, &e.attributes, &attributes)?;
+    let NodesFound { own: of_nodes, row } = content_found(alloc, g, s, e, &around, &nodes)?;
+    let itself = first(first(standing, rows), first(name, action_told(p, e)));
+    let own = first(itself, first(of_attributes, of_nodes));
+    let ty = if_found(alloc, e, found, &own, row)?;
+    Ok(Judged {
+        ty,
+        told: first(first(told_of(attributes), told_of(nodes)), own),
+    })
+}

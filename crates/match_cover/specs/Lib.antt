@@ -1,0 +1,7 @@
+pub mod Spines
+pub mod Tests
+pub mod Rows
+pub mod Levels
+pub mod Misses
+pub mod View
+pub mod Laws

@@ -1,0 +1,171 @@
+//! Whether patterns take every value of a type.
+ghost use Rattle.std.specs.Prelude.{◌≡◌, ◌++◌, ◌∷◌, [], IfErr, IfOk, List, OnOk, map, max};
+ghost use Rattle.con_terms.specs.View.{con_tree};
+ghost use Rattle.core_terms.specs.Trees.{Pt};
+ghost use Rattle.core_terms.specs.View.{datatype_view, decls_view, pat_tree, pats_view};
+ghost use Rattle.core_typing.specs.Cover.{Covers};
+ghost use Rattle.core_typing.specs.Declarations.{CoversBefore, datatypes_before as before};
+ghost use Rattle.match_cover.specs.Laws.{Asks, Missed, Refused};
+ghost use Rattle.match_cover.specs.Levels.{large_among as large_in};
+ghost use Rattle.match_cover.specs.Tests.{test_of as asked_by};
+ghost use Rattle.match_cover.specs.View.{maybe_shape, row_view, rows_view};
+
+use crate::columns::Columns;
+use crate::declared::datatypes_before;
+use crate::fault::CoverFault;
+use crate::first::Work;
+use crate::levels::large_among;
+use crate::miss::misses;
+use crate::rows::{Cell, Row, Rows};
+use crate::shapes::Shapes;
+use crate::test::{pattern_depth, test_of};
+use con_terms::con::Con;
+use con_terms::copy::copy_con;
+use core_terms::{Datatype, Decls, Pat, Pats};
+use std::alloc::{AllocError, Global};
+use std::rc::Rc;
+use type_faults::Shape;
+
+/// How deep patterns may be nested.
+const NESTED: u32 = 1200;
+
+/// How many columns may stand one after another.
+const COLUMNS: u32 = 3000;
+
+/// How many steps of looking one match may take.
+const STEPS: u32 = 1_000_000;
+
+/// Patterns, as what they ask. Contracts speak of the list of patterns that it was made of.
+#[derive(Drop)]
+pub struct Asked {
+    rows: Rows,
+    depth: u32,
+}
+
+impl Asked {
+    /// No pattern.
+    pub fn new(alloc: Global) -> Asked
+        ensures { Asks [] (rows_view result.rows) result.depth }
+    {
+        Asked {
+            rows: Rows {
+                items: Vec::new(alloc),
+            },
+            depth: 0,
+        }
+    }
+
+    /// Puts a pattern behind the others.
+    #[tactic(auto, using(crate::proofs::Asking::asks_more))]
+    pub fn add(&mut self, alloc: Global, p: &Pat) -> Result<(), AllocError>
+        ensures { OnOk result ((ps : List Pt) → Asks ps (rows_view self.old.rows) self.old.depth
+            → Asks (ps ++ pat_tree p.now ∷ []) (rows_view self.new.rows) self.new.depth) }
+    {
+        let depth = pattern_depth(p, NESTED)?;
+        let row = row_of(alloc, p)?;
+        self.rows.items.push(row)?;
+        if self.depth < depth {
+            self.depth = depth;
+        }
+        Ok(())
+    }
+}
+
+/// The row of a pattern, whose only column has one test.
+fn row_of(alloc: Global, p: &Pat) -> Result<Rc<Row>, AllocError>
+    ensures { IfOk result (λ r. row_view r.value ≡ (asked_by (pat_tree p.now) ∷ []) ∷ []) }
+{
+    let test = Rc::new(alloc, test_of(alloc, p, NESTED)?).map_err(AllocError::from)?;
+    let end = Rc::new(alloc, Cell::End).map_err(AllocError::from)?;
+    let cell = Rc::new(alloc, Cell::More(test, end)).map_err(AllocError::from)?;
+    let none = Rc::new(alloc, Row::End).map_err(AllocError::from)?;
+    Ok(Rc::new(alloc, Row::More(cell, none)).map_err(AllocError::from)?)
+}
+
+/// Whether the type, or that of a part that patterns of this depth look at, is too large.
+fn is_large(
+    alloc: Global,
+    datatypes: &Vec<Datatype>,
+    depth: u32,
+    t: &Con,
+) -> Result<bool, AllocError>
+    ensures { IfOk result (λ r. r ≡
+        large_in (map datatype_view datatypes.now.items) (max 1 depth) (con_tree t.now ∷ [])) }
+{
+    let mut types = Vec::new(alloc);
+    types.push(copy_con(alloc, t)?)?;
+    let levels = if depth == 0 { 1 } else { depth };
+    large_among(alloc, datatypes, types, levels)
+}
+
+/// The first shape of a type that none of the patterns takes.
+#[tactic(auto, using(crate::proofs::Asking::missed_none, crate::proofs::Asking::missed_some))]
+fn first_missed(
+    alloc: Global,
+    datatypes: &Vec<Datatype>,
+    asked: &Asked,
+    t: &Con,
+) -> Result<Option<Shape>, AllocError>
+    ensures { (ps : List Pt) → Asks ps (rows_view asked.now.rows) asked.now.depth
+        → IfOk result (λ o. Missed (map datatype_view datatypes.now.items) ps (con_tree t.now) (maybe_shape o)) }
+{
+    let con = Rc::new(alloc, copy_con(alloc, t)?).map_err(AllocError::from)?;
+    let end = Rc::new(alloc, Columns::End).map_err(AllocError::from)?;
+    let cols = Rc::new(alloc, Columns::More(asked.depth, con, end)).map_err(AllocError::from)?;
+    let mut work = Work { left: STEPS };
+    match misses(alloc, datatypes, &cols, &asked.rows, COLUMNS, &mut work)? {
+        None => Ok(None),
+        Some(Shapes::More(s, _)) => Ok(Some(Box::into_inner(s))),
+        Some(Shapes::End) => Err(AllocError),
+    }
+}
+
+/// Whether patterns take every value of a type, where these datatypes are declared.
+#[tactic(auto, using(crate::proofs::Asking::is_large, crate::proofs::Asking::is_small, crate::proofs::Asking::covers_all))]
+pub fn covers_asked(
+    alloc: Global,
+    datatypes: &Vec<Datatype>,
+    asked: &Asked,
+    t: &Con,
+) -> Result<(), CoverFault>
+    ensures covers { (ps : List Pt) → Asks ps (rows_view asked.now.rows) asked.now.depth
+        → OnOk result (Covers (map datatype_view datatypes.now.items) ps (con_tree t.now)) }
+    ensures refused { (ps : List Pt) → Asks ps (rows_view asked.now.rows) asked.now.depth
+        → IfErr result (Refused (map datatype_view datatypes.now.items) ps (con_tree t.now)) }
+{
+    if is_large(alloc, datatypes, asked.depth, t)? {
+        return Err(CoverFault::TooLarge);
+    }
+    match first_missed(alloc, datatypes, asked, t)? {
+        None => Ok(()),
+        Some(s) => Err(CoverFault::Missed(s)),
+    }
+}
+
+/// What patterns ask.
+fn asked_of(alloc: Global, ps: &Pats) -> Result<Asked, AllocError>
+    ensures { IfOk result (λ a. Asks (pats_view ps.now) (rows_view a.rows) a.depth) }
+{
+    let mut asked = Asked::new(alloc);
+    for i in 0..ps.items.len() {
+        asked.add(alloc, &ps.items[i])?;
+    }
+    Ok(asked)
+}
+
+/// Whether patterns take every value of a type, where so many of the declarations count.
+pub fn covers(
+    alloc: Global,
+    ds: &Decls,
+    counted: usize,
+    ps: &Pats,
+    t: &Con,
+) -> Result<(), CoverFault>
+    ensures covers { OnOk result (CoversBefore (decls_view ds.now) counted (pats_view ps.now) (con_tree t.now)) }
+    ensures refused { IfErr result
+        (Refused (before counted (decls_view ds.now)) (pats_view ps.now) (con_tree t.now)) }
+{
+    let datatypes = datatypes_before(alloc, ds, counted)?;
+    let asked = asked_of(alloc, ps)?;
+    covers_asked(alloc, &datatypes, &asked, t)
+}

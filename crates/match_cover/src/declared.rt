@@ -1,0 +1,79 @@
+//! The datatypes that declarations make.
+ghost use Rattle.std.specs.Prelude.{◌≡◌, IfOk, map};
+ghost use Rattle.core_terms.specs.View.{constructor_view, datatype_view, decls_view, maybe_con};
+ghost use Rattle.core_typing.specs.Declarations.{datatypes_before as before};
+
+use con_terms::con::Con;
+use con_terms::copy::copy_con;
+use core_terms::{Constructor, Constructors, Datatype, Decl, Decls};
+use std::alloc::{AllocError, Global};
+use type_faults::copy_symbols;
+use type_makers::datatypes::basis_datatypes;
+
+/// A copy of what a constructor holds.
+fn copy_held(alloc: Global, held: &Option<Con>) -> Result<Option<Con>, AllocError>
+    ensures { IfOk result (λ new. maybe_con new ≡ maybe_con held.now) }
+{
+    match held {
+        None => Ok(None),
+        Some(c) => Ok(Some(copy_con(alloc, c)?)),
+    }
+}
+
+/// A copy of a constructor.
+fn copy_constructor(alloc: Global, c: &Constructor) -> Result<Constructor, AllocError>
+    ensures { IfOk result (λ new. constructor_view new ≡ constructor_view c.now) }
+{
+    Ok(Constructor {
+        place: c.place,
+        name: c.name,
+        holds: copy_held(alloc, &c.holds)?,
+    })
+}
+
+/// A copy of the constructors of a datatype.
+fn copy_constructors(alloc: Global, cs: &Constructors) -> Result<Constructors, AllocError>
+    ensures { IfOk result (λ new. map constructor_view new.items.items ≡ map constructor_view cs.now.items.items) }
+{
+    let mut items = Vec::with_capacity(alloc, cs.items.len())?;
+    for j in 0..cs.items.len() {
+        items.push(copy_constructor(alloc, &cs.items[j])?)?;
+    }
+    Ok(Constructors { items })
+}
+
+/// A copy of a datatype.
+pub fn copy_datatype(alloc: Global, d: &Datatype) -> Result<Datatype, AllocError>
+    ensures { IfOk result (λ new. datatype_view new ≡ datatype_view d.now) }
+{
+    Ok(Datatype {
+        path: copy_symbols(alloc, &d.path)?,
+        place: d.place,
+        module: d.module,
+        name: d.name,
+        symbol: d.symbol,
+        parameters: copy_symbols(alloc, &d.parameters)?,
+        constructors: copy_constructors(alloc, &d.constructors)?,
+    })
+}
+
+/// The datatypes that every program has, and then those of so many declarations.
+pub fn datatypes_before(
+    alloc: Global,
+    decls: &Decls,
+    counted: usize,
+) -> Result<Vec<Datatype>, AllocError>
+    ensures { IfOk result (λ ds. map datatype_view ds.items ≡ before counted (decls_view decls.now)) }
+{
+    let mut all = basis_datatypes(alloc)?;
+    for i in 0..decls.items.len() {
+        if i >= counted {
+            return Ok(all);
+        }
+        match &decls.items[i] {
+            Decl::Datatype(d) => all.push(copy_datatype(alloc, d)?)?,
+            _ => {}
+        }
+    }
+    Ok(all)
+}

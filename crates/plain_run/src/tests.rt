@@ -1,0 +1,5 @@
+//! Runs of programs that are built by hand.
+mod calls;
+mod forms;
+mod pages;
+mod terms;

@@ -1,0 +1,5 @@
+pub mod Formed
+pub mod Lists
+pub mod Parts
+pub mod Standing
+pub mod Texts

@@ -1,0 +1,4 @@
+pub mod Declarations
+pub mod Elements
+pub mod Parts
+pub mod Symbols

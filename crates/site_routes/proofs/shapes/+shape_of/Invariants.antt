@@ -1,0 +1,17 @@
+use Rattle.std.proofs.Common.{◌+◌, ◌*◌}
+use Rattle.site_routes.proofs.shapes.+shape_of.Given as goal
+
+abbrev pub decreases-shape_of : goal.decreases-shape_of
+decreases-shape_of l = 8 * l.room
+
+abbrev pub decreases-shape_of_data : goal.decreases-shape_of_data
+decreases-shape_of_data l = 8 * l.room + 5
+
+abbrev pub decreases-shape_of_row : goal.decreases-shape_of_row
+decreases-shape_of_row l = 8 * l.room + 5
+
+abbrev pub decreases-parts_of_row : goal.decreases-parts_of_row
+decreases-parts_of_row l = 8 * l.room + 4
+
+abbrev pub decreases-parts_of_pairs : goal.decreases-parts_of_pairs
+decreases-parts_of_pairs l = 8 * l.room + 3
