@@ -1,5 +1,5 @@
 -- For `is_only_word`: a list of one word.
-mod OneWord
+mod Words
 -- For `top`: from the bytes that were read to what it says of the input.
 mod Inputs
 -- For `modules_have_one_answer` and `modules_have_one_page`.

@@ -9,7 +9,7 @@ use Rattle.ur_lexer.specs.Lexing.{Lexes, at_end, at_fault, Ending, TextsHaveOneR
 use Rattle.ur_lexer.specs.declared.fault.LexFault.{LexFault}
 use Rattle.ur_lexer.specs.declared.fault.LexFault.TheVariants as lexer
 use Rattle.page_server.specs.declared.refusal.ModuleFault.{ModuleFault}
-use Rattle.page_server.specs.declared.refusal.ModuleFault.TheVariants.{FileTooLong, NotUtf8, BadChar, OpenText, OpenComment, IntTooLarge, Syntax, TooDeep, OtherForm, Memory}
+use Rattle.page_server.specs.declared.refusal.ModuleFault.TheVariants.{FileTooLong, NotUtf8, BadChar, OpenText, OpenComment, IntTooLarge, Syntax, TooDeep, NotBuilt, Memory}
 use Rattle.page_server.specs.Modules.{IsModule, IsRefused, lexical, unparsed, longest, ModulesHaveOneRefusal}
 
 -- the reasons for a refusal, by the layer that tells it
@@ -18,7 +18,7 @@ data Reason (bytes : List ℕ) (fault : ModuleFault) : Type 0 where
   no_text : length bytes ≤ longest → (IsUtf8 bytes → ⊥) → fault ≡ NotUtf8 → Reason bytes fault
   unread : IsModule bytes → (told : LexFault) → (tokens : List Token) → Lexes bytes tokens (at_fault told) → fault ≡ lexical told → Reason bytes fault
   no_module : IsModule bytes → (told : ParseFault) → (tokens : List Token) → Lexes bytes tokens at_end → IsNoModule (record { items = tokens; end = length bytes }) told → fault ≡ unparsed told → Reason bytes fault
-  other : IsModule bytes → (tokens : List Token) → Lexes bytes tokens at_end → IsModuleText tokens → fault ≡ OtherForm → Reason bytes fault
+  other : IsModule bytes → (tokens : List Token) → Lexes bytes tokens at_end → IsModuleText tokens → fault ≡ NotBuilt → Reason bytes fault
   free : fault ≡ Memory → Reason bytes fault
 
 reason : (bytes : List ℕ) (fault : ModuleFault) → IsRefused bytes fault → Reason bytes fault
@@ -30,7 +30,7 @@ reason bytes (OpenComment at) (is, (tokens, fails)) = unread is (lexer.OpenComme
 reason bytes (IntTooLarge at) (is, (tokens, fails)) = unread is (lexer.IntTooLarge at) tokens fails refl
 reason bytes (Syntax at) (is, (tokens, reads, (small, told))) = no_module is (parser.Syntax at) tokens reads told refl
 reason bytes (TooDeep at) (is, (tokens, reads, (small, told))) = no_module is (parser.TooDeep at) tokens reads told refl
-reason bytes OtherForm (is, (tokens, reads, (small, told))) = other is tokens reads told refl
+reason bytes NotBuilt (is, (tokens, reads, (small, told))) = other is tokens reads told refl
 reason bytes Memory h = free refl
 
 -- no reading ends both at the text's end and at a fault

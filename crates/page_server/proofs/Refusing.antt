@@ -6,7 +6,7 @@ use Rattle.surface_grammar.specs.declared.fault.ParseFault.TheVariants as parser
 use Rattle.ur_lexer.specs.Lexing.{Lexes, at_end}
 use Rattle.ur_parser.specs.Sources.{IsNoModule}
 use Rattle.page_server.specs.declared.refusal.ModuleFault.{ModuleFault}
-use Rattle.page_server.specs.declared.refusal.ModuleFault.TheVariants.{FileTooLong, NotUtf8, BadChar, OpenText, OpenComment, IntTooLarge, Syntax, TooDeep, OtherForm, Memory}
+use Rattle.page_server.specs.declared.refusal.ModuleFault.TheVariants.{FileTooLong, NotUtf8, BadChar, OpenText, OpenComment, IntTooLarge, Syntax, TooDeep, NotBuilt, Memory}
 use Rattle.page_server.specs.Modules.{HasNoPage, IsModule, IsOtherForm, IsRefused, unparsed}
 
 -- what the parser refuses
@@ -25,5 +25,5 @@ no_page bytes ts (OpenComment at) is lexes h = absurd h.1
 no_page bytes ts (IntTooLarge at) is lexes h = absurd h.1
 no_page bytes ts (Syntax at) is lexes h = (is, (ts.items, lexes, h))
 no_page bytes ts (TooDeep at) is lexes h = (is, (ts.items, lexes, h))
-no_page bytes ts OtherForm is lexes h = (is, (ts.items, lexes, h))
+no_page bytes ts NotBuilt is lexes h = (is, (ts.items, lexes, h))
 no_page bytes ts Memory is lexes h = tt

@@ -13,7 +13,7 @@ use Rattle.ur_parser.specs.Small.{Module, IsSmall, IsNoSmall, longest as longest
 use Rattle.ur_parser.specs.Pages.{page_of}
 use Rattle.ur_parser.specs.Sources.{IsModuleText, IsNoModule}
 use Rattle.page_server.specs.declared.refusal.ModuleFault.{ModuleFault}
-use Rattle.page_server.specs.declared.refusal.ModuleFault.TheVariants.{FileTooLong, NotUtf8, BadChar, OpenText, OpenComment, IntTooLarge, Syntax, TooDeep, OtherForm, Memory}
+use Rattle.page_server.specs.declared.refusal.ModuleFault.TheVariants.{FileTooLong, NotUtf8, BadChar, OpenText, OpenComment, IntTooLarge, Syntax, TooDeep, NotBuilt, Memory}
 
 -- a fault of the lexer as a refusal
 abbrev pub lexical : LexFault → ModuleFault
@@ -49,7 +49,7 @@ HasPage bytes trees =
 abbrev pub IsOtherForm : TokenList → ModuleFault → Type 0
 IsOtherForm ts (Syntax at) = IsNoModule ts (parser.Syntax at)
 IsOtherForm ts (TooDeep at) = IsNoModule ts (parser.TooDeep at)
-IsOtherForm ts OtherForm = IsModuleText ts.items
+IsOtherForm ts NotBuilt = IsModuleText ts.items
 IsOtherForm ts Memory = Unit {0}
 IsOtherForm ts _ = ⊥
 
@@ -77,7 +77,7 @@ IsRefused bytes (OpenComment at) = IsModule bytes × IsTold bytes (lexer.OpenCom
 IsRefused bytes (IntTooLarge at) = IsModule bytes × IsTold bytes (lexer.IntTooLarge at)
 IsRefused bytes (Syntax at) = IsModule bytes × HasNoForm bytes (Syntax at)
 IsRefused bytes (TooDeep at) = IsModule bytes × HasNoForm bytes (TooDeep at)
-IsRefused bytes OtherForm = IsModule bytes × HasNoForm bytes OtherForm
+IsRefused bytes NotBuilt = IsModule bytes × HasNoForm bytes NotBuilt
 IsRefused bytes Memory = Unit {0}
 
 -- A module that has a page is refused for no reason but want of memory.

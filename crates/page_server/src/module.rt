@@ -23,7 +23,7 @@ fn unbuilt(alloc: Global, tokens: &Tokens) -> ModuleFault
     ensures { IsOtherForm tokens.now result }
 {
     match parse(alloc, tokens) {
-        Ok(_tree) => ModuleFault::OtherForm,
+        Ok(_tree) => ModuleFault::NotBuilt,
         Err(fault) => ModuleFault::from(fault),
     }
 }

@@ -1,9 +1,0 @@
-pub mod Fronts
-pub mod Spines
-pub mod Heads
-pub mod Parts
-pub mod Firsts
-pub mod Right
-pub mod Answered
-pub mod Large
-pub mod Asking

@@ -1,4 +1,0 @@
-pub mod Binds
-pub mod Matching
-pub mod View
-pub mod Laws

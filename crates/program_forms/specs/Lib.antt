@@ -1,4 +1,0 @@
-pub mod Declarations
-pub mod Elements
-pub mod Parts
-pub mod Symbols
