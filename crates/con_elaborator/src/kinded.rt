@@ -1,0 +1,597 @@
+//! Constructors with their kinds, form by form. `room` is the number of levels that are left; none
+//! left counts as want of memory.
+ghost use Rattle.std.specs.Prelude.{◌≤◌, IfOk};
+
+pub use crate::leaves::KindedCon;
+use crate::leaves::{Here, copy_maybe, folder_over, kinds_differ, labelled, map_over, named};
+use con_terms::con::{Con, Cons, Pair, Pairs};
+use con_terms::kind::{Kind, Kinds, copy_kind, same_kind};
+use con_terms::symbol::SymTable;
+use name_scopes::{ElabFault, KnownType, Scope};
+use plain_tree::{Numbers, Path, con as plain};
+use std::alloc::{AllocError, Global};
+use table_rows::Text;
+use type_makers::forms::{
+    applied, arrow, arrow_kind, empty_row, guarded, joined, lambda, poly, record, row_kind,
+};
+
+/// The constructor of the type level that a constructor of a source is, with its kind.
+///
+/// `wanted` is the kind that is wanted where it stands; kinds that are left out go by it. The places of
+/// faults are in the file with this number.
+pub fn con(
+    alloc: Global,
+    scope: &Scope,
+    names: &SymTable,
+    file: u32,
+    c: &plain::Con,
+    wanted: Option<&Kind>,
+    room: u32,
+) -> Result<(Con, Kind), ElabFault> {
+    let here = Here { alloc, names, file };
+    let KindedCon { con, kind } = elaborate(&here, scope, c, wanted, room)?;
+    Ok((con, kind))
+}
+
+/// A constructor, with one level fewer for its parts.
+#[cycle(elaborate)]
+fn elaborate(
+    here: &Here<'_>,
+    scope: &Scope,
+    c: &plain::Con,
+    wanted: Option<&Kind>,
+    room: u32,
+) -> Result<KindedCon, ElabFault> {
+    if room == 0 {
+        return Err(ElabFault::Memory);
+    }
+    let left = room - 1;
+    match &c.form {
+        plain::ConForm::Name(path) => named(here, scope, c.at, path, wanted),
+        plain::ConForm::Wild => Err(ElabFault::Unsolved(here.place(c.at))),
+        plain::ConForm::Label(label) => labelled(here, label),
+        plain::ConForm::Arrow(from, to) => of_arrow(here, scope, from, to, left),
+        plain::ConForm::Poly(implicit, name, kind, body) => {
+            of_poly(here, scope, *implicit, name, kind, body, left)
+        }
+        plain::ConForm::Guarded(a, b, body) => of_guarded(here, scope, a, b, body, left),
+        plain::ConForm::Lambda(name, kind, body) => {
+            of_lambda(here, scope, name, kind, body, wanted, left)
+        }
+        plain::ConForm::Record(more, row) => of_record(here, scope, more.items.len(), row, left),
+        plain::ConForm::Apply(function, arguments) => {
+            of_apply(here, scope, function, arguments, left)
+        }
+        plain::ConForm::Concat(first, more) => of_concat(here, scope, first, more, wanted, left),
+        plain::ConForm::Unit => Ok(KindedCon {
+            con: Con::UnitCon,
+            kind: Kind::Units,
+        }),
+        plain::ConForm::Tuple(parts) => of_tuple(here, scope, parts, wanted, left),
+        plain::ConForm::Kinded(part, kind) => of_kinded(here, scope, part, kind, left),
+        plain::ConForm::Row(fields) => of_row(here, scope, fields, wanted, left),
+        plain::ConForm::Proj(tuple, numbers) => of_proj(here, scope, tuple, numbers, left),
+    }
+}
+
+/// `c -> d`
+#[cycle(elaborate)]
+#[inline(never)]
+fn of_arrow(
+    here: &Here<'_>,
+    scope: &Scope,
+    from: &plain::Con,
+    to: &plain::Con,
+    room: u32,
+) -> Result<KindedCon, ElabFault> {
+    let from = elaborate(here, scope, from, Some(&Kind::Types), room)?;
+    let to = elaborate(here, scope, to, Some(&Kind::Types), room)?;
+    Ok(KindedCon {
+        con: arrow(here.alloc, from.con, to.con)?,
+        kind: Kind::Types,
+    })
+}
+
+/// `x :: k -> c`, or `x ::: k -> c`
+#[cycle(elaborate)]
+#[inline(never)]
+fn of_poly(
+    here: &Here<'_>,
+    scope: &Scope,
+    implicit: bool,
+    name: &Text,
+    kind: &Kind,
+    body: &plain::Con,
+    room: u32,
+) -> Result<KindedCon, ElabFault> {
+    let under = scope.with_con(here.alloc, name, kind)?;
+    let body = elaborate(here, &under, body, Some(&Kind::Types), room)?;
+    let kind = copy_kind(here.alloc, kind)?;
+    Ok(KindedCon {
+        con: poly(here.alloc, implicit, kind, body.con)?,
+        kind: Kind::Types,
+    })
+}
+
+/// `[c ~ d] => e`
+#[cycle(elaborate)]
+#[inline(never)]
+fn of_guarded(
+    here: &Here<'_>,
+    scope: &Scope,
+    left: &plain::Con,
+    right: &plain::Con,
+    body: &plain::Con,
+    room: u32,
+) -> Result<KindedCon, ElabFault> {
+    let left = elaborate(here, scope, left, None, room)?;
+    let right = elaborate(here, scope, right, None, room)?;
+    let body = elaborate(here, scope, body, Some(&Kind::Types), room)?;
+    Ok(KindedCon {
+        con: guarded(here.alloc, left.con, right.con, body.con)?,
+        kind: Kind::Types,
+    })
+}
+
+/// `fn x :: k => c`
+#[cycle(elaborate)]
+#[inline(never)]
+fn of_lambda(
+    here: &Here<'_>,
+    scope: &Scope,
+    name: &Text,
+    kind: &Kind,
+    body: &plain::Con,
+    wanted: Option<&Kind>,
+    room: u32,
+) -> Result<KindedCon, ElabFault> {
+    let under = scope.with_con(here.alloc, name, kind)?;
+    let gives = match wanted {
+        Some(Kind::Arrow(_, gives)) => Some(&**gives),
+        _ => None,
+    };
+    let body = elaborate(here, &under, body, gives, room)?;
+    let from = copy_kind(here.alloc, kind)?;
+    let kind = copy_kind(here.alloc, kind)?;
+    Ok(KindedCon {
+        con: lambda(here.alloc, kind, body.con)?,
+        kind: arrow_kind(here.alloc, from, body.kind)?,
+    })
+}
+
+/// What is left of a number of levels, where this many parts nest in one another.
+fn room_for(room: u32, parts: usize) -> Result<u32, ElabFault>
+    ensures { IfOk result (λ left. left ≤ room) }
+{
+    if parts > room as usize {
+        return Err(ElabFault::Memory);
+    }
+    Ok(room - parts as u32)
+}
+
+/// `$c`, with so many `$` more
+#[cycle(elaborate)]
+#[inline(never)]
+fn of_record(
+    here: &Here<'_>,
+    scope: &Scope,
+    more: usize,
+    row: &plain::Con,
+    room: u32,
+) -> Result<KindedCon, ElabFault> {
+    let room = room_for(room, more)?;
+    let types = row_kind(here.alloc, Kind::Types)?;
+    let row = elaborate(here, scope, row, Some(&types), room)?;
+    let mut built = record(here.alloc, row.con)?;
+    for _ in 0..more {
+        built = record(here.alloc, built)?;
+    }
+    Ok(KindedCon {
+        con: built,
+        kind: Kind::Types,
+    })
+}
+
+/// Whether a constructor is a name that stands for what has many kinds, as `folder` and `map`.
+#[inline(never)]
+fn has_many_kinds(here: &Here<'_>, scope: &Scope, c: &plain::Con) -> Result<Many, ElabFault> {
+    match &c.form {
+        plain::ConForm::Name(path) => many_named(here, scope, path),
+        _ => Ok(Many::Neither),
+    }
+}
+
+/// What has many kinds.
+#[derive(Drop)]
+enum Many {
+    Folder,
+    Map,
+    Neither,
+}
+
+/// Whether a name stands for what has many kinds.
+fn many_named(here: &Here<'_>, scope: &Scope, path: &Path) -> Result<Many, ElabFault> {
+    match scope.type_named(here.alloc, path)? {
+        Some(KnownType::Folder) => Ok(Many::Folder),
+        Some(KnownType::Map) => Ok(Many::Map),
+        _ => Ok(Many::Neither),
+    }
+}
+
+/// `c d ..`
+#[cycle(elaborate)]
+#[inline(never)]
+fn of_apply(
+    here: &Here<'_>,
+    scope: &Scope,
+    function: &plain::Con,
+    arguments: &plain::Cons,
+    room: u32,
+) -> Result<KindedCon, ElabFault> {
+    let room = room_for(room, arguments.items.len())?;
+    let Some(first) = arguments.items.first() else {
+        return elaborate(here, scope, function, None, room);
+    };
+    let mut built = first_applied(here, scope, function, first, room)?;
+    for i in 1..arguments.items.len() {
+        built = with_argument(here, scope, built, &arguments.items[i], room)?;
+    }
+    Ok(built)
+}
+
+/// `c d`. Where `c` is `folder` or `map`, its kind goes by that of `d`.
+#[cycle(elaborate)]
+#[inline(never)]
+fn first_applied(
+    here: &Here<'_>,
+    scope: &Scope,
+    function: &plain::Con,
+    argument: &plain::Con,
+    room: u32,
+) -> Result<KindedCon, ElabFault> {
+    match has_many_kinds(here, scope, function)? {
+        Many::Neither => {
+            let function = elaborate(here, scope, function, None, room)?;
+            with_argument(here, scope, function, argument, room)
+        }
+        Many::Folder => {
+            let argument = elaborate(here, scope, argument, None, room)?;
+            folder_of(here, scope, argument)
+        }
+        Many::Map => {
+            let argument = elaborate(here, scope, argument, None, room)?;
+            Ok(map_of(here.alloc, argument)?)
+        }
+    }
+}
+
+/// `folder r`
+#[inline(never)]
+fn folder_of(here: &Here<'_>, scope: &Scope, row: KindedCon) -> Result<KindedCon, ElabFault> {
+    let KindedCon { con, kind } = row;
+    let values = value_kind(here.alloc, Some(&kind))?;
+    let folder = folder_over(here, scope, values)?;
+    Ok(KindedCon {
+        con: applied(here.alloc, folder.con, con)?,
+        kind: Kind::Types,
+    })
+}
+
+/// The kinds at the two ends of a kind of functions; `Type` where it isn't one.
+fn ends_of(alloc: Global, functions: &Kind) -> Result<(Kind, Kind), AllocError> {
+    match functions {
+        Kind::Arrow(from, to) => {
+            let from = copy_kind(alloc, from)?;
+            let to = copy_kind(alloc, to)?;
+            Ok((from, to))
+        }
+        _ => Ok((Kind::Types, Kind::Types)),
+    }
+}
+
+/// `map f`
+#[inline(never)]
+fn map_of(alloc: Global, function: KindedCon) -> Result<KindedCon, AllocError> {
+    let KindedCon { con, kind } = function;
+    let (from, to) = ends_of(alloc, &kind)?;
+    let rows = row_kind(alloc, copy_kind(alloc, &from)?)?;
+    let gives = row_kind(alloc, copy_kind(alloc, &to)?)?;
+    let map = map_over(alloc, from, to)?;
+    Ok(KindedCon {
+        con: applied(alloc, map.con, con)?,
+        kind: arrow_kind(alloc, rows, gives)?,
+    })
+}
+
+/// What is applied to one argument more. What is no function has no kind then, and that is told.
+#[cycle(elaborate)]
+#[inline(never)]
+fn with_argument(
+    here: &Here<'_>,
+    scope: &Scope,
+    function: KindedCon,
+    argument: &plain::Con,
+    room: u32,
+) -> Result<KindedCon, ElabFault> {
+    let KindedCon { con, kind } = function;
+    match kind {
+        Kind::Arrow(from, to) => {
+            let argument_con = elaborate(here, scope, argument, Some(&from), room)?;
+            Ok(KindedCon {
+                con: applied(here.alloc, con, argument_con.con)?,
+                kind: Box::into_inner(to),
+            })
+        }
+        other => {
+            let given = elaborate(here, scope, argument, None, room)?;
+            let wanted = arrow_kind(here.alloc, given.kind, Kind::Types)?;
+            Err(kinds_differ(here, argument.at, wanted, other)?)
+        }
+    }
+}
+
+/// Whether a constructor is a row without fields, which may have many kinds.
+fn is_empty_row(c: &plain::Con) -> bool {
+    match &c.form {
+        plain::ConForm::Row(fields) => fields.items.len() == 0,
+        _ => false,
+    }
+}
+
+/// The rows of a concatenation so far. None stands for one without fields whose kind isn't known yet.
+#[derive(Drop)]
+struct Joining {
+    parts: Vec<Option<Con>>,
+    kind: Option<Kind>,
+}
+
+/// `c ++ d ++ ..`. Rows without fields before the others have the kind of these.
+#[cycle(elaborate)]
+#[inline(never)]
+fn of_concat(
+    here: &Here<'_>,
+    scope: &Scope,
+    first: &plain::Con,
+    more: &plain::Cons,
+    wanted: Option<&Kind>,
+    room: u32,
+) -> Result<KindedCon, ElabFault> {
+    let room = room_for(room, more.items.len())?;
+    let start = Joining {
+        parts: Vec::new(here.alloc),
+        kind: copy_maybe(here.alloc, wanted)?,
+    };
+    let mut joining = with_part(here, scope, start, first, room)?;
+    for i in 0..more.items.len() {
+        joining = with_part(here, scope, joining, &more.items[i], room)?;
+    }
+    joined_parts(here.alloc, joining)
+}
+
+/// The rows of a concatenation with one more.
+#[cycle(elaborate)]
+#[inline(never)]
+fn with_part(
+    here: &Here<'_>,
+    scope: &Scope,
+    joining: Joining,
+    part: &plain::Con,
+    room: u32,
+) -> Result<Joining, ElabFault> {
+    let Joining { mut parts, kind } = joining;
+    if kind.is_none() && is_empty_row(part) {
+        parts.push(None).map_err(AllocError::from)?;
+        return Ok(Joining { parts, kind });
+    }
+    let part = elaborate(here, scope, part, kind.as_ref(), room)?;
+    parts.push(Some(part.con)).map_err(AllocError::from)?;
+    Ok(Joining {
+        parts,
+        kind: Some(part.kind),
+    })
+}
+
+/// Rows joined from left to right.
+#[inline(never)]
+fn joined_parts(alloc: Global, joining: Joining) -> Result<KindedCon, ElabFault> {
+    let Joining { parts, kind } = joining;
+    let kind = match kind {
+        Some(kind) => kind,
+        None => row_kind(alloc, Kind::Types)?,
+    };
+    let mut built: Option<Con> = None;
+    for part in parts {
+        let row = match part {
+            Some(row) => row,
+            None => empty_row(alloc, value_kind(alloc, Some(&kind))?)?,
+        };
+        built = Some(match built {
+            Some(left) => joined(alloc, left, row)?,
+            None => row,
+        });
+    }
+    match built {
+        Some(con) => Ok(KindedCon { con, kind }),
+        None => Err(ElabFault::Memory),
+    }
+}
+
+/// The kind of the values of rows of a kind; `Type` where it isn't known.
+fn value_kind(alloc: Global, rows: Option<&Kind>) -> Result<Kind, AllocError> {
+    match rows {
+        Some(Kind::Row(kind)) => copy_kind(alloc, kind),
+        _ => Ok(Kind::Types),
+    }
+}
+
+/// `(c, d, ..)`
+#[cycle(elaborate)]
+#[inline(never)]
+fn of_tuple(
+    here: &Here<'_>,
+    scope: &Scope,
+    parts: &plain::Cons,
+    wanted: Option<&Kind>,
+    room: u32,
+) -> Result<KindedCon, ElabFault> {
+    let mut cons = Cons::new(here.alloc);
+    let mut kinds = Kinds::new(here.alloc);
+    for i in 0..parts.items.len() {
+        let part = elaborate(here, scope, &parts.items[i], component(wanted, i), room)?;
+        cons.push(part.con)?;
+        kinds.push(part.kind)?;
+    }
+    Ok(KindedCon {
+        con: Con::Tuple(cons),
+        kind: Kind::Tuple(kinds),
+    })
+}
+
+/// The kind that is wanted of a component, where one is.
+fn component(wanted: Option<&Kind>, place: usize) -> Option<&Kind> {
+    match wanted {
+        Some(Kind::Tuple(kinds)) => kinds.items.get(place),
+        _ => None,
+    }
+}
+
+/// `(c :: k)`. The kind doesn't stand in what is built, so that another is found is told here.
+#[cycle(elaborate)]
+#[inline(never)]
+fn of_kinded(
+    here: &Here<'_>,
+    scope: &Scope,
+    part: &plain::Con,
+    kind: &Kind,
+    room: u32,
+) -> Result<KindedCon, ElabFault> {
+    let built = elaborate(here, scope, part, Some(kind), room)?;
+    if same_kind(&built.kind, kind) {
+        Ok(built)
+    } else {
+        let wanted = copy_kind(here.alloc, kind)?;
+        Err(kinds_differ(here, part.at, wanted, built.kind)?)
+    }
+}
+
+/// `[c = d, ..]`. Its values have the kind that is wanted, else that of the first one.
+#[cycle(elaborate)]
+#[inline(never)]
+fn of_row(
+    here: &Here<'_>,
+    scope: &Scope,
+    fields: &plain::ConFields,
+    wanted: Option<&Kind>,
+    room: u32,
+) -> Result<KindedCon, ElabFault> {
+    let mut kind = match wanted {
+        Some(Kind::Row(kind)) => Some(copy_kind(here.alloc, kind)?),
+        _ => None,
+    };
+    let mut pairs = Pairs::new(here.alloc);
+    for i in 0..fields.items.len() {
+        let field = &fields.items[i];
+        let KindedCon { con: name, kind: _ } = elaborate(
+            here,
+            scope,
+            &field.name,
+            Some(&Kind::Names),
+            room,
+        )?;
+        let KindedCon {
+            con: value,
+            kind: found,
+        } = elaborate(here, scope, &field.value, kind.as_ref(), room)?;
+        kind = kept_kind(kind, found);
+        pairs.push(Pair { name, value })?;
+    }
+    row_of(here.alloc, kind, pairs)
+}
+
+/// The kind that was known before, else the one that is found.
+fn kept_kind(known: Option<Kind>, found: Kind) -> Option<Kind> {
+    match known {
+        Some(kind) => Some(kind),
+        None => Some(found),
+    }
+}
+
+/// A row of fields, whose values have a kind.
+#[inline(never)]
+fn row_of(alloc: Global, kind: Option<Kind>, pairs: Pairs) -> Result<KindedCon, ElabFault> {
+    let kind = match kind {
+        Some(kind) => kind,
+        None => Kind::Types,
+    };
+    let rows = row_kind(alloc, copy_kind(alloc, &kind)?)?;
+    Ok(KindedCon {
+        con: row_con(alloc, kind, pairs)?,
+        kind: rows,
+    })
+}
+
+/// A row literal.
+fn row_con(alloc: Global, kind: Kind, pairs: Pairs) -> Result<Con, AllocError> {
+    Ok(Con::Row(Box::new(alloc, kind)?, pairs))
+}
+
+/// `c.1.2`
+#[cycle(elaborate)]
+#[inline(never)]
+fn of_proj(
+    here: &Here<'_>,
+    scope: &Scope,
+    tuple: &plain::Con,
+    numbers: &Numbers,
+    room: u32,
+) -> Result<KindedCon, ElabFault> {
+    let room = room_for(room, numbers.items.len())?;
+    let mut built = elaborate(here, scope, tuple, None, room)?;
+    for i in 0..numbers.items.len() {
+        built = component_of(here, tuple.at, built, numbers.items[i])?;
+    }
+    Ok(built)
+}
+
+/// A component of a tuple; the first has the number 1. What has none has no kind then, and that is told.
+#[inline(never)]
+fn component_of(
+    here: &Here<'_>,
+    at: u32,
+    tuple: KindedCon,
+    number: u64,
+) -> Result<KindedCon, ElabFault> {
+    let KindedCon { con, kind } = tuple;
+    let kinds = match kind {
+        Kind::Tuple(kinds) => kinds,
+        other => {
+            let wanted = longer(here.alloc, &Kinds::new(here.alloc))?;
+            return Err(kinds_differ(here, at, wanted, other)?);
+        }
+    };
+    if number == 0 || number > kinds.len() as u64 || number > u32::MAX as u64 {
+        let wanted = longer(here.alloc, &kinds)?;
+        return Err(kinds_differ(here, at, wanted, Kind::Tuple(kinds))?);
+    }
+    let index = number - 1;
+    let kind = copy_kind(here.alloc, kinds.at(index as usize))?;
+    Ok(KindedCon {
+        con: proj(here.alloc, con, index as u32)?,
+        kind,
+    })
+}
+
+/// The kind of tuples of these kinds and one more, which is `Type`.
+fn longer(alloc: Global, kinds: &Kinds) -> Result<Kind, AllocError> {
+    let mut more = Kinds::new(alloc);
+    for i in 0..kinds.len() {
+        more.push(copy_kind(alloc, kinds.at(i))?)?;
+    }
+    more.push(Kind::Types)?;
+    Ok(Kind::Tuple(more))
+}
+
+/// `c.i`, counted from 0
+fn proj(alloc: Global, tuple: Con, index: u32) -> Result<Con, AllocError> {
+    Ok(Con::Proj(Box::new(alloc, tuple)?, index))
+}

@@ -1,0 +1,142 @@
+//! Names, labels, and what their kinds are.
+use con_terms::con::Con;
+use con_terms::kind::{Kind, copy_kind};
+use con_terms::place::Place;
+use con_terms::symbol::SymTable;
+use kind_rules::flaw::Differing;
+use name_scopes::{ElabFault, KnownType, Scope, path_text};
+use plain_tree::{Label, Path};
+use std::alloc::{AllocError, Global};
+use type_faults::Fault;
+use type_makers::forms::{arrow_kind, row_kind};
+
+/// A constructor with its kind.
+#[derive(Drop)]
+pub struct KindedCon {
+    pub con: Con,
+    pub kind: Kind,
+}
+
+/// What stays the same throughout a constructor.
+#[derive(Drop)]
+pub struct Here<'a> {
+    pub alloc: Global,
+    /// The symbols of all texts.
+    pub names: &'a SymTable,
+    /// The number of the file.
+    pub file: u32,
+}
+
+impl<'a> Here<'a> {
+    /// A place of this file.
+    pub fn place(&self, at: u32) -> Place {
+        Place {
+            file: self.file,
+            at,
+        }
+    }
+}
+
+/// A copy of a kind, where there is one.
+pub fn copy_maybe(alloc: Global, kind: Option<&Kind>) -> Result<Option<Kind>, AllocError> {
+    match kind {
+        None => Ok(None),
+        Some(kind) => Ok(Some(copy_kind(alloc, kind)?)),
+    }
+}
+
+/// The fault that a kind is found where another is wanted.
+pub fn kinds_differ(
+    here: &Here<'_>,
+    at: u32,
+    wanted: Kind,
+    found: Kind,
+) -> Result<ElabFault, AllocError> {
+    let differing = Box::new(here.alloc, Differing { wanted, found })?;
+    Ok(ElabFault::Told(Fault::KindMismatch(here.place(at), differing)))
+}
+
+/// A name of the type level. One that isn't in scope is told.
+#[inline(never)]
+pub fn named(
+    here: &Here<'_>,
+    scope: &Scope,
+    at: u32,
+    path: &Path,
+    wanted: Option<&Kind>,
+) -> Result<KindedCon, ElabFault> {
+    match scope.type_named(here.alloc, path)? {
+        Some(KnownType::Known(con, kind)) => Ok(KindedCon { con, kind }),
+        Some(KnownType::Folder) => folder_wanted(here, scope, wanted),
+        Some(KnownType::Map) => map_wanted(here, wanted),
+        None => {
+            let text = path_text(here.alloc, path)?;
+            Err(ElabFault::Unbound(here.place(at), text))
+        }
+    }
+}
+
+/// `folder` over rows whose values have this kind.
+pub fn folder_over(here: &Here<'_>, scope: &Scope, kind: Kind) -> Result<KindedCon, ElabFault> {
+    let symbol = scope.folder(here.alloc, &kind)?;
+    let rows = row_kind(here.alloc, kind)?;
+    Ok(KindedCon {
+        con: Con::Basic(symbol),
+        kind: arrow_kind(here.alloc, rows, Kind::Types)?,
+    })
+}
+
+/// `folder` alone, over rows of the kind that is wanted.
+fn folder_wanted(
+    here: &Here<'_>,
+    scope: &Scope,
+    wanted: Option<&Kind>,
+) -> Result<KindedCon, ElabFault> {
+    if let Some(Kind::Arrow(from, _)) = wanted {
+        if let Kind::Row(kind) = &**from {
+            return folder_over(here, scope, copy_kind(here.alloc, kind)?);
+        }
+    }
+    folder_over(here, scope, Kind::Types)
+}
+
+/// `map` from a kind to another.
+pub fn map_over(alloc: Global, from: Kind, to: Kind) -> Result<KindedCon, AllocError> {
+    let of_each = arrow_kind(alloc, copy_kind(alloc, &from)?, copy_kind(alloc, &to)?)?;
+    let rows = row_kind(alloc, copy_kind(alloc, &from)?)?;
+    let gives = row_kind(alloc, copy_kind(alloc, &to)?)?;
+    let of_rows = arrow_kind(alloc, rows, gives)?;
+    let con = Con::Map(Box::new(alloc, from)?, Box::new(alloc, to)?);
+    Ok(KindedCon {
+        con,
+        kind: arrow_kind(alloc, of_each, of_rows)?,
+    })
+}
+
+/// `map` alone, of the kind that is wanted.
+fn map_wanted(here: &Here<'_>, wanted: Option<&Kind>) -> Result<KindedCon, ElabFault> {
+    if let Some(Kind::Arrow(function, _)) = wanted {
+        if let Kind::Arrow(from, to) = &**function {
+            let from = copy_kind(here.alloc, from)?;
+            let to = copy_kind(here.alloc, to)?;
+            return Ok(map_over(here.alloc, from, to)?);
+        }
+    }
+    Ok(map_over(here.alloc, Kind::Types, Kind::Types)?)
+}
+
+/// The name of a field. The symbols of all names were made before.
+#[inline(never)]
+pub fn labelled(here: &Here<'_>, label: &Label) -> Result<KindedCon, ElabFault> {
+    let found = match label {
+        Label::Word(text) => here.names.find(text.as_str()),
+        Label::Number(number) => here.names.find(number.to_string(here.alloc)?.as_str()),
+    };
+    match found {
+        Some(symbol) => Ok(KindedCon {
+            con: Con::Name(symbol),
+            kind: Kind::Names,
+        }),
+        None => Err(ElabFault::Memory),
+    }
+}
