@@ -1,0 +1,18 @@
+use Rattle.std.proofs.Common.{◌≤◌, vec_len, ◌+◌, ◌*◌}
+use Rattle.core_terms.specs.declared.pat.PatForm.TheViews.{out-PatFields}
+use Rattle.match_cover.proofs.test.+pattern_depth.Given as goal
+
+abbrev pub invariant-fields_depth-loop-left : goal.invariant-fields_depth-loop-left
+invariant-fields_depth-loop-left l = (l.deepest ≤ l.room) × (l.left ≤ vec_len (out-PatFields l.fs).items)
+
+abbrev pub decreases-fields_depth-loop-left : goal.decreases-fields_depth-loop-left
+decreases-fields_depth-loop-left l = l.left
+
+abbrev pub decreases-pattern_depth : goal.decreases-pattern_depth
+decreases-pattern_depth l = 4 * l.room
+
+abbrev pub decreases-form_depth : goal.decreases-form_depth
+decreases-form_depth l = 4 * l.room + 3
+
+abbrev pub decreases-fields_depth : goal.decreases-fields_depth
+decreases-fields_depth l = 4 * l.room + 2

@@ -1,0 +1,74 @@
+//! The datatypes that declarations make.
+
+use con_terms::con::Con;
+use con_terms::copy::copy_con;
+use core_terms::{Constructor, Constructors, Datatype, Decl, Decls};
+use std::alloc::{AllocError, Global};
+use type_faults::copy_symbols;
+use type_makers::datatypes::basis_datatypes;
+
+/// A copy of what a constructor holds.
+fn copy_held(alloc: Global, held: &Option<Con>) -> Result<Option<Con>, AllocError> {
+    match held {
+        None => Ok(None),
+        Some(c) => Ok(Some(copy_con(alloc, c)?)),
+    }
+}
+
+/// A copy of a constructor.
+fn copy_constructor(alloc: Global, c: &Constructor) -> Result<Constructor, AllocError> {
+    Ok(Constructor {
+        place: c.place,
+        name: c.name,
+        holds: copy_held(alloc, &c.holds)?,
+    })
+}
+
+/// A copy of the constructors of a datatype.
+fn copy_constructors(alloc: Global, cs: &Constructors) -> Result<Constructors, AllocError> {
+    let mut items = Vec::with_capacity(alloc, cs.items.len())?;
+    for j in 0..cs.items.len() {
+        items.push(copy_constructor(alloc, &cs.items[j])?)?;
+    }
+    Ok(Constructors { items })
+}
+
+/// A copy of a datatype.
+pub fn copy_datatype(alloc: Global, d: &Datatype) -> Result<Datatype, AllocError> {
+    Ok(Datatype {
+        path: copy_symbols(alloc, &d.path)?,
+        place: d.place,
+        module: d.module,
+        name: d.name,
+        symbol: d.symbol,
+        parameters: copy_symbols(alloc, &d.parameters)?,
+        constructors: copy_constructors(alloc, &d.constructors)?,
+    })
+}
+
+/// Puts the datatype of a declaration behind others, where it makes one.
+fn add_datatype(alloc: Global, decl: &Decl, all: &mut Vec<Datatype>) -> Result<(), AllocError> {
+    match decl {
+        Decl::Datatype(d) => Ok(all.push(copy_datatype(alloc, d)?)?),
+        Decl::Val(_, _) => Ok(()),
+        Decl::ValRec(_, _) => Ok(()),
+        Decl::Con(_) => Ok(()),
+        Decl::Thing(_) => Ok(()),
+    }
+}
+
+/// The datatypes that every program has, and then those of so many declarations.
+pub fn datatypes_before(
+    alloc: Global,
+    decls: &Decls,
+    counted: usize,
+) -> Result<Vec<Datatype>, AllocError> {
+    let mut all = basis_datatypes(alloc)?;
+    for i in 0..decls.items.len() {
+        if i >= counted {
+            return Ok(all);
+        }
+        add_datatype(alloc, &decls.items[i], &mut all)?;
+    }
+    Ok(all)
+}

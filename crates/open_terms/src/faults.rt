@@ -1,0 +1,102 @@
+//! What is told of terms that have no type.
+use crate::env::Env;
+use crate::memory::on_heap;
+use crate::types::normal_of;
+use con_terms::con::{Con, Pairs};
+use con_terms::kind::Kind;
+use con_terms::place::Place;
+use name_scopes::ElabFault;
+use plain_tree::Path;
+use std::alloc::{AllocError, Global};
+use table_rows::Text;
+use type_faults::fault::{Fault, Types};
+use type_makers::forms::{arrow, empty_row, guarded, poly, record};
+use type_makers::types::no_types;
+
+/// Two types that differ.
+#[inline(never)]
+pub fn mismatch(
+    alloc: Global,
+    env: &Env,
+    at: Place,
+    wanted: Con,
+    found: Con,
+) -> Result<ElabFault, AllocError> {
+    let called = env.scope.called(alloc)?;
+    let types = on_heap(alloc, Types { wanted, found })?;
+    Ok(ElabFault::Told(Fault::Mismatch(at, called, types)))
+}
+
+/// A type that isn't of a form, which stands as what is wanted.
+#[inline(never)]
+pub fn not_of(
+    alloc: Global,
+    env: &Env,
+    at: Place,
+    wanted: Con,
+    found: &Con,
+) -> Result<ElabFault, AllocError> {
+    match normal_of(alloc, found)? {
+        None => Ok(ElabFault::Told(Fault::TooLarge(at))),
+        Some(found) => mismatch(alloc, env, at, wanted, found),
+    }
+}
+
+/// A wanted type that isn't of a form, which stands as what is found.
+#[inline(never)]
+pub fn not_wanted(
+    alloc: Global,
+    env: &Env,
+    at: Place,
+    wanted: &Con,
+    found: Con,
+) -> Result<ElabFault, AllocError> {
+    match normal_of(alloc, wanted)? {
+        None => Ok(ElabFault::Told(Fault::TooLarge(at))),
+        Some(wanted) => mismatch(alloc, env, at, wanted, found),
+    }
+}
+
+/// What stands for the parts of a function's type that nothing tells.
+pub fn any_function(alloc: Global) -> Result<Con, AllocError> {
+    arrow(alloc, Con::UnitCon, Con::UnitCon)
+}
+
+/// What stands for a type of a function of a constructor.
+pub fn any_poly(alloc: Global) -> Result<Con, AllocError> {
+    poly(alloc, false, Kind::Types, Con::UnitCon)
+}
+
+/// What stands for a type of a function of a guard's proof.
+pub fn any_guarded(alloc: Global) -> Result<Con, AllocError> {
+    let left = empty_row(alloc, Kind::Units)?;
+    let right = empty_row(alloc, Kind::Units)?;
+    guarded(alloc, left, right, Con::UnitCon)
+}
+
+/// What stands for the type of a record.
+pub fn any_record(alloc: Global) -> Result<Con, AllocError> {
+    let row = no_types(alloc)?;
+    record(alloc, row)
+}
+
+/// A record type of these fields.
+pub fn record_of_pairs(alloc: Global, pairs: Pairs) -> Result<Con, AllocError> {
+    record(alloc, Con::Row(on_heap(alloc, Kind::Types)?, pairs))
+}
+
+/// A name with its modules, as it is written.
+fn path_text(alloc: Global, path: &Path) -> Result<Text, AllocError> {
+    let mut text = Text::new(alloc);
+    for i in 0..path.modules.items.len() {
+        text.push_str(path.modules.items[i].as_str())?;
+        text.push('.')?;
+    }
+    text.push_str(path.name.as_str())?;
+    Ok(text)
+}
+
+/// A name that isn't in scope.
+pub fn unbound(alloc: Global, at: Place, path: &Path) -> Result<ElabFault, AllocError> {
+    Ok(ElabFault::Unbound(at, path_text(alloc, path)?))
+}

@@ -1,0 +1,71 @@
+//! Types with their heads reduced, and in normal form.
+use crate::want::Want;
+use con_terms::con::Con;
+use con_terms::kind::Kind;
+use con_terms::size::has_room;
+use con_terms::substitute::subst;
+use kind_rules::compare::comparison_fuel;
+use row_normal::normal::{NormalFault, normal};
+use row_normal::written::{reduce, reduce_head};
+use std::alloc::{AllocError, Global};
+
+/// A constructor of which the root stays as it is; none where it is too large.
+#[inline(never)]
+pub fn head_of(alloc: Global, c: &Con) -> Result<Option<Con>, AllocError> {
+    let mut fuel = comparison_fuel();
+    match reduce_head(alloc, c, &mut fuel) {
+        Ok(head) => Ok(Some(head)),
+        Err(NormalFault::TooLarge) => Ok(None),
+        Err(NormalFault::Memory) => Err(AllocError),
+    }
+}
+
+/// A constructor after all steps of reduction, with rows as written; none where it is too large.
+#[inline(never)]
+pub fn reduced(alloc: Global, c: &Con) -> Result<Option<Con>, AllocError> {
+    let mut fuel = comparison_fuel();
+    match reduce(alloc, c, &mut fuel) {
+        Ok(c) => Ok(Some(c)),
+        Err(NormalFault::TooLarge) => Ok(None),
+        Err(NormalFault::Memory) => Err(AllocError),
+    }
+}
+
+/// The normal form of a constructor; none where it is too large.
+#[inline(never)]
+pub fn normal_of(alloc: Global, c: &Con) -> Result<Option<Con>, AllocError> {
+    let mut fuel = comparison_fuel();
+    match normal(alloc, c, &Kind::Types, &mut fuel) {
+        Ok(form) => Ok(Some(form.into_con())),
+        Err(NormalFault::TooLarge) => Ok(None),
+        Err(NormalFault::Memory) => Err(AllocError),
+    }
+}
+
+/// A type as it is shown and kept: reduced, or as it stands where that is too large.
+pub fn kept(alloc: Global, c: Con) -> Result<Con, AllocError> {
+    match &c {
+        Con::Basic(_) | Con::Var(_) => return Ok(c),
+        _ => {}
+    }
+    match reduced(alloc, &c)? {
+        Some(less) => Ok(less),
+        None => Ok(c),
+    }
+}
+
+/// The body with an argument for its innermost variable. One without room counts as want of memory.
+pub fn put_in(alloc: Global, body: &Con, argument: &Con) -> Result<Con, AllocError> {
+    if !has_room(body) || !has_room(argument) {
+        return Err(AllocError);
+    }
+    subst(alloc, body, argument)
+}
+
+/// What is left of a wanted type of which nothing is known further in.
+pub fn wants_nothing(want: &Want) -> Want {
+    match want {
+        Want::Choose => Want::Choose,
+        _ => Want::Free,
+    }
+}

@@ -1,0 +1,101 @@
+//! What is known of the type of a term, and a term with its type.
+use crate::memory::on_heap;
+use crate::types::{head_of, wants_nothing};
+use con_terms::con::Con;
+use con_terms::copy::copy_con;
+use core_terms::Exp;
+use name_scopes::ElabFault;
+use std::alloc::{AllocError, Global};
+
+/// A term with its type.
+#[derive(Drop)]
+pub struct Typed {
+    pub exp: Exp,
+    pub con: Con,
+}
+
+/// What is known of a wanted type.
+#[cycle(want)]
+#[derive(Drop)]
+pub enum Want {
+    /// Nothing yet; more may be known later.
+    Free,
+    /// Nothing, and no more will be known: contexts of pages are chosen.
+    Choose,
+    /// All of it.
+    Whole(Con),
+    /// That it is a function's, with this parameter.
+    Takes(Con, Box<Want>),
+    /// That it is a page's, with what is known of its context and of the fields filled before it.
+    Page(Option<Con>, Option<Con>),
+}
+
+/// A copy of what is known, if any.
+fn copy_known(alloc: Global, known: &Option<Con>) -> Result<Option<Con>, AllocError> {
+    match known {
+        None => Ok(None),
+        Some(c) => Ok(Some(copy_con(alloc, c)?)),
+    }
+}
+
+/// A copy of what is known of a wanted type.
+#[cycle(copy_want)]
+pub fn copy_want(alloc: Global, want: &Want) -> Result<Want, AllocError> {
+    match want {
+        Want::Free => Ok(Want::Free),
+        Want::Choose => Ok(Want::Choose),
+        Want::Whole(c) => Ok(Want::Whole(copy_con(alloc, c)?)),
+        Want::Takes(c, w) => {
+            let con = copy_con(alloc, c)?;
+            let rest = copy_want(alloc, w)?;
+            Ok(Want::Takes(con, on_heap(alloc, rest)?))
+        }
+        Want::Page(c, u) => {
+            let context = copy_known(alloc, c)?;
+            Ok(Want::Page(context, copy_known(alloc, u)?))
+        }
+    }
+}
+
+/// Whether more may be known of a wanted type later.
+pub fn may_grow(want: &Want) -> bool {
+    match want {
+        Want::Free | Want::Takes(_, _) | Want::Page(_, _) => true,
+        Want::Choose | Want::Whole(_) => false,
+    }
+}
+
+/// What is wanted of the result of a function of which this is wanted.
+pub fn after_term(alloc: Global, want: &Want) -> Result<Want, ElabFault> {
+    match want {
+        Want::Free | Want::Page(_, _) => Ok(Want::Free),
+        Want::Choose => Ok(Want::Choose),
+        Want::Takes(_, w) => Ok(copy_want(alloc, w)?),
+        Want::Whole(c) => match head_of(alloc, c)? {
+            Some(Con::Arrow(_, b)) => Ok(Want::Whole(Box::into_inner(b))),
+            _ => Ok(Want::Choose),
+        },
+    }
+}
+
+/// What is wanted of the body of a function of a constructor.
+pub fn after_con(alloc: Global, want: &Want) -> Result<Want, ElabFault> {
+    match want {
+        Want::Whole(c) => match head_of(alloc, c)? {
+            Some(Con::Poly(_, _, b)) => Ok(Want::Whole(Box::into_inner(b))),
+            _ => Ok(Want::Choose),
+        },
+        _ => Ok(wants_nothing(want)),
+    }
+}
+
+/// What is wanted of the body of a function of a guard's proof.
+pub fn after_guard(alloc: Global, want: &Want) -> Result<Want, ElabFault> {
+    match want {
+        Want::Whole(c) => match head_of(alloc, c)? {
+            Some(Con::Guarded(_, _, b)) => Ok(Want::Whole(Box::into_inner(b))),
+            _ => Ok(Want::Choose),
+        },
+        _ => Ok(wants_nothing(want)),
+    }
+}

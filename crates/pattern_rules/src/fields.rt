@@ -1,0 +1,74 @@
+//! Fields of record patterns, among the pieces of a row.
+
+use crate::binds::FieldsBound;
+use con_terms::con::{Con, Cons};
+use con_terms::place::Place;
+use judgements::{Bound, Globals, Here, other_form, row_of_rest};
+use std::alloc::{AllocError, Global};
+use type_faults::{Fault, place_of};
+use type_makers::forms::record;
+use type_makers::types::{one_field, unit_type};
+
+/// The record of the pieces that are left of a row.
+fn left_over(alloc: Global, rest: Cons) -> Result<Con, AllocError> {
+    let row = row_of_rest(alloc, rest)?;
+    record(alloc, row)
+}
+
+/// What is told where a row has no field of a name.
+pub fn no_field_there(
+    alloc: Global,
+    g: &Globals,
+    s: &Here,
+    p: Place,
+    m: Con,
+    pieces: Cons,
+) -> Result<Fault, AllocError> {
+    let wanted = left_over(alloc, pieces)?;
+    let row = one_field(alloc, m, Con::UnitCon)?;
+    let found = record(alloc, row)?;
+    other_form(alloc, g, s, p, wanted, found)
+}
+
+/// Whether a place stands before another: by file, and then by byte.
+fn sooner(p: Place, q: Place) -> bool {
+    if p.file < q.file {
+        true
+    } else if q.file < p.file {
+        false
+    } else {
+        p.at < q.at
+    }
+}
+
+/// The earlier of two faults; of two at one place the first.
+pub fn earlier(f: Fault, h: Fault) -> Fault {
+    if sooner(place_of(&h), place_of(&f)) {
+        h
+    } else {
+        f
+    }
+}
+
+/// What a record pattern binds, from what its fields bind: fields that are left are told where none may be.
+#[inline(never)]
+pub fn whole_binding(
+    alloc: Global,
+    g: &Globals,
+    s: &Here,
+    p: Place,
+    more: bool,
+    fields: FieldsBound,
+) -> Result<Bound, AllocError> {
+    match fields {
+        FieldsBound::Bad(f) => Ok(Bound::Bad(f)),
+        FieldsBound::Bound(rest, locals) => {
+            if more || rest.items.len() == 0 {
+                return Ok(Bound::Under(locals));
+            }
+            let wanted = left_over(alloc, rest)?;
+            let found = unit_type(alloc)?;
+            Ok(Bound::Bad(other_form(alloc, g, s, p, wanted, found)?))
+        }
+    }
+}

@@ -1,0 +1,67 @@
+//! Names at their places, and constructors of a kind.
+use crate::terms::Env;
+use con_terms::con::Con;
+use con_terms::kind::Kind;
+use con_terms::place::Place;
+use con_terms::symbol::Sym;
+use core_terms::{Exp, Named, Symbols};
+use name_scopes::ElabFault;
+use plain_tree::{Word, Words};
+use std::alloc::{AllocError, Global};
+
+/// The symbol of a name.
+pub fn symbol_of(env: &Env, word: &Word) -> Result<Sym, AllocError> {
+    env.scope.symbol(word.text.as_str())
+}
+
+/// The symbols of names.
+pub fn symbols_of(alloc: Global, env: &Env, words: &Words) -> Result<Symbols, AllocError> {
+    let mut symbols = Symbols::new(alloc);
+    for i in 0..words.items.len() {
+        symbols.push(symbol_of(env, &words.items[i])?)?;
+    }
+    Ok(symbols)
+}
+
+/// A place of the file.
+pub fn place_of(env: &Env, at: u32) -> Place {
+    Place { file: env.file, at }
+}
+
+/// A value's name with its term and its type.
+pub fn named(
+    env: &Env,
+    word: &Word,
+    written: bool,
+    con: Con,
+    exp: Exp,
+) -> Result<Named, AllocError> {
+    Ok(Named {
+        place: place_of(env, word.at),
+        name: symbol_of(env, word)?,
+        written,
+        con,
+        exp,
+    })
+}
+
+/// A type that is written, where one is.
+pub fn written_type(
+    alloc: Global,
+    env: &Env,
+    c: &Option<plain_tree::Con>,
+    room: u32,
+) -> Result<Option<Con>, ElabFault> {
+    match c {
+        None => Ok(None),
+        Some(c) => Ok(Some(type_of(alloc, env, c, room)?)),
+    }
+}
+
+/// A type.
+pub fn type_of(alloc: Global, env: &Env, c: &plain_tree::Con, room: u32) -> Result<Con, ElabFault> {
+    let names = env.scope.names();
+    let wanted = Kind::Types;
+    let (con, _) = con_elaborator::con(alloc, &env.scope, names, env.file, c, Some(&wanted), room)?;
+    Ok(con)
+}

@@ -1,0 +1,2 @@
+-- For `first_unbuilt`.
+mod First
