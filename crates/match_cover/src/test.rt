@@ -12,7 +12,7 @@ use std::rc::Rc;
 use table_rows::Text;
 
 /// What a pattern asks of a value. Contracts see it as `test_tree`.
-#[cycle(test)]
+#[cycle(asked)]
 #[derive(Drop)]
 pub enum Test {
     Anything,
@@ -26,7 +26,7 @@ pub enum Test {
 }
 
 /// What is asked of fields, by their names in normal form; none where a name is too large.
-#[cycle(test)]
+#[cycle(asked)]
 #[derive(Drop)]
 pub enum Tests {
     End,
