@@ -12,8 +12,6 @@ mod reader;
 pub mod router;
 pub mod routes;
 mod scoped;
-#[cfg(test)]
-mod tests;
 pub mod texts;
 
 pub use ask::Ask;

@@ -7,8 +7,6 @@ mod fault;
 mod gather;
 mod hidden;
 mod length;
-#[cfg(test)]
-mod tests;
 mod writer;
 
 pub use fault::PageFault;

@@ -5,8 +5,6 @@ pub mod directives;
 pub mod laws;
 pub mod lines;
 pub mod projects;
-#[cfg(test)]
-mod tests;
 pub mod words;
 
 pub use directives::Directive;

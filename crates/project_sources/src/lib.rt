@@ -6,8 +6,6 @@ pub mod lines;
 pub mod modules;
 pub mod projects;
 pub mod reading;
-#[cfg(test)]
-mod tests;
 
 pub use fault::SourceFault;
 pub use modules::{LONGEST, ModuleSource, interface_of, tree_of};

@@ -8,6 +8,3 @@ pub mod tokens;
 pub use kind::Kind;
 pub use token::{Content, Token};
 pub use tokens::Tokens;
-
-#[cfg(test)]
-mod tests;

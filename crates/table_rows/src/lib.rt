@@ -4,8 +4,6 @@
 
 pub mod bytes;
 pub mod shape;
-#[cfg(test)]
-mod tests;
 pub mod text;
 pub mod texts;
 pub mod wire;

@@ -54,22 +54,3 @@ impl Texts {
         &self.items[place]
     }
 }
-
-#[cfg(test)]
-mod tests {
-    use super::*;
-
-    #[test]
-    fn texts_keep_their_bytes(rt: HostRuntime) -> Result<(), AllocError> {
-        let mut text = Text::of(rt.alloc(), "a")?;
-        text.push('é')?;
-        text.push_str("&b")?;
-        let mut texts = Texts::new(rt.alloc());
-        texts.push(Text::new(rt.alloc()))?;
-        texts.push(text.copy(rt.alloc())?)?;
-        assert_eq!(rt; texts.len(), 2);
-        assert_eq!(rt; texts.at(1).as_str(), "aé&b");
-        assert_eq!(rt; texts.at(1).len(), 5);
-        Ok(())
-    }
-}

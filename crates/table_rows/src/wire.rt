@@ -167,21 +167,3 @@ pub fn copy_wires(alloc: Global, wires: &Wires) -> Result<Wires, AllocError>
     }
     Ok(Wires { items })
 }
-
-#[cfg(test)]
-mod tests {
-    use super::*;
-
-    #[test]
-    fn a_copy_keeps_the_order(rt: HostRuntime) -> Result<(), AllocError> {
-        let mut wires = Wires::new(rt.alloc());
-        wires.push(Wire::Int(-7))?;
-        let held = Box::new(rt.alloc(), Wire::Words(Text::of(rt.alloc(), "é")?))?;
-        wires.push(Wire::Tagged(Text::of(rt.alloc(), "Some")?, Some(held)))?;
-        let copied = copy_wires(rt.alloc(), &wires)?;
-        assert_eq!(rt; copied.len(), 2);
-        assert!(rt; matches!(copied.at(0), Wire::Int(-7)));
-        assert!(rt; matches!(copied.at(1), Wire::Tagged(_, Some(_))));
-        Ok(())
-    }
-}

@@ -2,8 +2,6 @@
 //! cookie, or the name of an operation on these.
 #![tactic(auto)]
 
-#[cfg(test)]
-mod tests;
 pub mod unbuilt;
 
 pub use unbuilt::first_unbuilt;

@@ -109,37 +109,3 @@ impl Sink for MemSink {
         Ok(count)
     }
 }
-
-#[cfg(test)]
-mod tests {
-    use super::*;
-    use crate::{ReadFault, read_up_to, write_all};
-    use std::alloc::AllocError;
-
-    #[test]
-    fn reads_in_small_pieces(rt: HostRuntime) -> Result<(), AllocError> {
-        let mut source = MemSource::new(b"abc".to_vec(rt.alloc())?, 1, Vec::new(rt.alloc()));
-        assert!(rt;
-            read_up_to(rt.alloc(), &mut source, 2).is_ok_and(|read| read.as_slice()
-                == b"ab".as_slice())
-        );
-        let mut source = MemSource::new(b"abc".to_vec(rt.alloc())?, 2, vec![in rt.alloc(); 1]?);
-        assert!(rt;
-            read_up_to(rt.alloc(), &mut source, 9).is_err_and(|fault| fault == ReadFault::Failed)
-        );
-        Ok(())
-    }
-
-    #[test]
-    fn writes_in_small_pieces(rt: HostRuntime) -> Result<(), AllocError> {
-        let mut sink = MemSink::new(rt.alloc(), 2, Vec::new(rt.alloc()));
-        assert!(rt; write_all(&mut sink, b"abc").is_ok());
-        assert!(rt; sink.written() == b"abc".as_slice());
-        let mut sink = MemSink::new(rt.alloc(), 2, vec![in rt.alloc(); 1]?);
-        assert!(rt; write_all(&mut sink, b"abc").is_err());
-        assert!(rt; sink.written() == b"ab".as_slice());
-        let mut sink = MemSink::new(rt.alloc(), 0, Vec::new(rt.alloc()));
-        assert!(rt; write_all(&mut sink, b"abc").is_err());
-        Ok(())
-    }
-}

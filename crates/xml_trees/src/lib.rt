@@ -7,8 +7,6 @@ pub mod name;
 pub mod page;
 pub mod source_name;
 pub mod tag;
-#[cfg(test)]
-mod tests;
 
 pub use attrs::{Attr, Attrs};
 pub use name::Name;

@@ -1,5 +1,5 @@
 //! Project files as a person writes them, and the line at which each is refused.
-use crate::{ProjectFault, read_project};
+use project_files::{ProjectFault, read_project};
 use std::alloc::{AllocError, Global};
 
 /// Whole project files, and how many modules each names.
@@ -57,15 +57,20 @@ fn of_modules(alloc: Global, count: u32) -> Result<Vec<u8>, AllocError> {
     Ok(bytes)
 }
 
-#[test]
-fn each_project_is_read_or_refused_at_its_line(rt: HostRuntime) -> Result<(), AllocError> {
+/// Each project file, and projects of as many modules as may be and one more.
+pub fn each_project_is_read_or_refused_at_its_line(alloc: Global) -> Result<bool, AllocError> {
     for (bytes, modules) in &WHOLE {
-        assert!(rt; outcome(rt.alloc(), bytes)? == Ok(*modules));
+        if outcome(alloc, bytes)? != Ok(*modules) {
+            return Ok(false);
+        }
     }
     for (bytes, line) in &REFUSED {
-        assert!(rt; outcome(rt.alloc(), bytes)? == Err(*line));
+        if outcome(alloc, bytes)? != Err(*line) {
+            return Ok(false);
+        }
     }
-    assert!(rt; outcome(rt.alloc(), &of_modules(rt.alloc(), 1000)?)? == Ok(1000));
-    assert!(rt; outcome(rt.alloc(), &of_modules(rt.alloc(), 1001)?)? == Err(1002));
-    Ok(())
+    Ok(
+        outcome(alloc, &of_modules(alloc, 1000)?)? == Ok(1000)
+            && outcome(alloc, &of_modules(alloc, 1001)?)? == Err(1002),
+    )
 }

@@ -1,5 +1,5 @@
 use Rattle.xml_trees.specs.Trees.{built, IsWhole}
-use Rattle.page_bytes.proofs.tests.long_page.Given as goal
+use Rattle.library_trial.proofs.page_texts.long_page.Given as goal
 
 abbrev pub invariant-loop : goal.invariant-loop
 invariant-loop l = IsWhole (built l.page)

@@ -1,11 +1,11 @@
 //! Links written and read: every form of value, every refusal, and values of any depth.
-use crate::{Entry, LinkFault, Routes, link_text, read_link};
+use link_router::{Entry, Routes, link_text, read_link};
 use std::alloc::{AllocError, Global};
 use table_rows::{
     Arguments, Case, Datatype, Datatypes, Part, Parts, Shape, Text, Texts, Wire, Wires,
 };
 
-/// What each test may meet.
+/// What each trial may meet.
 type Tested<T> = Result<T, AllocError>;
 
 /// A shape at one argument.
@@ -165,22 +165,18 @@ const ASKED: [(&str, &str); 37] = [
     ("/Main/nothing/", "TooManyPieces"),
 ];
 
-#[test]
-fn paths_are_read(rt: HostRuntime) -> Result<(), AllocError> {
-    let alloc = rt.alloc();
+/// Each path's answer by GET, and two by POST.
+pub fn paths_are_read(alloc: Global) -> Tested<bool> {
     let routes = routes(alloc)?;
     for (path, answer) in ASKED {
-        assert_eq!(rt; told(alloc, &routes, false, path)?.as_str(), answer);
+        if told(alloc, &routes, false, path)?.as_str() != answer {
+            return Ok(false);
+        }
     }
-    assert_eq!(rt;
-        told(alloc, &routes, true, "/Main/add/1")?.as_str(),
-        "/Main/add/1"
-    );
-    assert_eq!(rt;
-        told(alloc, &routes, true, "/Main/echo/_")?.as_str(),
-        "OtherMethod"
-    );
-    Ok(())
+    Ok(
+        told(alloc, &routes, true, "/Main/add/1")?.as_str() == "/Main/add/1"
+            && told(alloc, &routes, true, "/Main/echo/_")?.as_str() == "OtherMethod",
+    )
 }
 
 /// The length of the link with these arguments to the entry of a path, where the path has one.
@@ -201,30 +197,37 @@ fn repeated(alloc: Global, front: &str, piece: &str, times: u32, back: &str) -> 
     Ok(path)
 }
 
-#[test]
-fn values_of_any_depth(rt: HostRuntime) -> Result<(), AllocError> {
-    let alloc = rt.alloc();
-    let routes = routes(alloc)?;
+/// Whether the links of long lists are read as they are written.
+fn long_lists_are_read(alloc: Global, routes: &Routes) -> Tested<bool> {
     for depth in [300, 3000, 50000] {
         let path = repeated(alloc, "/Main/list", "/Cons/1", depth, "/Nil")?;
-        assert!(rt; told(alloc, &routes, false, path.as_str())?.as_str() == path.as_str());
+        if told(alloc, routes, false, path.as_str())?.as_str() != path.as_str() {
+            return Ok(false);
+        }
     }
-    let grown = repeated(alloc, "/Main/grows", "/Twice", 40, "/Whole/1")?;
-    assert_eq!(rt;
-        told(alloc, &routes, false, grown.as_str())?.as_str(),
-        "TooFewPieces"
-    );
-    let units = repeated(alloc, "/Main/units", "/Twice", 40, "/Whole")?;
-    assert_eq!(rt;
-        told(alloc, &routes, false, units.as_str())?.as_str(),
-        "Memory"
-    );
+    Ok(true)
+}
+
+/// The length of the link of a value of so many constructors, each in the next.
+fn length_of_deep(alloc: Global, routes: &Routes, depth: u32) -> Tested<Option<usize>> {
     let mut value = Wire::Unit;
-    for _ in 0..50000 {
+    for _ in 0..depth {
         value = Wire::Tagged(Text::of(alloc, "S")?, Some(Box::new(alloc, value)?));
     }
     let mut wires = Wires::new(alloc);
     wires.push(value)?;
-    assert!(rt; length_at(alloc, &routes, "/Main/echo/_", &wires)? == Some(100010));
-    Ok(())
+    length_at(alloc, routes, "/Main/echo/_", &wires)
+}
+
+/// Long lists, types that grow, and a deep value.
+pub fn values_of_any_depth(alloc: Global) -> Tested<bool> {
+    let routes = routes(alloc)?;
+    let grown = repeated(alloc, "/Main/grows", "/Twice", 40, "/Whole/1")?;
+    let units = repeated(alloc, "/Main/units", "/Twice", 40, "/Whole")?;
+    Ok(
+        long_lists_are_read(alloc, &routes)?
+            && told(alloc, &routes, false, grown.as_str())?.as_str() == "TooFewPieces"
+            && told(alloc, &routes, false, units.as_str())?.as_str() == "Memory"
+            && length_of_deep(alloc, &routes, 50000)? == Some(100010),
+    )
 }

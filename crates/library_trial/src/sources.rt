@@ -1,5 +1,5 @@
 //! Projects in memory, read or refused with their line.
-use super::*;
+use project_sources::{SourceFault, read_sources};
 use std::alloc::{AllocError, Global};
 use table_rows::{Bytes, Text, Texts};
 use ur_outside::{MemFile, MemFiles};
@@ -79,21 +79,25 @@ fn line_of(alloc: Global, files: &mut MemFiles) -> Result<String, AllocError> {
     }
 }
 
-#[test]
-fn projects_are_read_or_refused_with_their_line(rt: HostRuntime) -> Result<(), AllocError> {
+/// Each project's line.
+pub fn projects_are_read_or_refused_with_their_line(alloc: Global) -> Result<bool, AllocError> {
     for (files, line) in &PROJECTS {
-        let mut files = folder(rt.alloc(), files, &[])?;
-        assert!(rt; line_of(rt.alloc(), &mut files)?.as_str() == *line);
+        let mut files = folder(alloc, files, &[])?;
+        if line_of(alloc, &mut files)?.as_str() != *line {
+            return Ok(false);
+        }
     }
-    Ok(())
+    Ok(true)
 }
 
-#[test]
-fn failures_of_reading_are_told(rt: HostRuntime) -> Result<(), AllocError> {
+/// The first project, with each call of the files in turn failing.
+pub fn failures_of_reading_are_told(alloc: Global) -> Result<bool, AllocError> {
     let (files, _) = PROJECTS[0];
     for call in 0..4u64 {
-        let mut files = folder(rt.alloc(), files, &[call])?;
-        assert!(rt; line_of(rt.alloc(), &mut files)?.as_str() == "failed");
+        let mut files = folder(alloc, files, &[call])?;
+        if line_of(alloc, &mut files)?.as_str() != "failed" {
+            return Ok(false);
+        }
     }
-    Ok(())
+    Ok(true)
 }

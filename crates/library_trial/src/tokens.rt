@@ -1,9 +1,9 @@
-//! Trees of a few tokens, with the places of what isn't built yet.
-use super::*;
+//! Tokens that are kept and given back, and trees of a few tokens with the places of what isn't built yet.
 use std::alloc::{AllocError, Global};
 use surface_grammar::Tree;
-use surface_tree::{Content, Kind, Token};
+use surface_tree::{Content, Kind, Token, Tokens};
 use table_rows::Text;
+use unbuilt_forms::first_unbuilt;
 
 /// Tokens, each one byte behind the one before it, and the place that is wanted.
 const TREES: [(&[(Kind, &str)], Option<u32>); 6] = [
@@ -46,11 +46,37 @@ fn tree(alloc: Global, tokens: &[(Kind, &str)]) -> Result<Tree, AllocError> {
     Ok(tree)
 }
 
-#[test]
-fn the_first_unbuilt_token_is_found(rt: HostRuntime) -> Result<(), AllocError> {
+/// The place in each tree.
+pub fn the_first_unbuilt_token_is_found(alloc: Global) -> Result<bool, AllocError> {
     for (tokens, wanted) in &TREES {
-        let tree = tree(rt.alloc(), tokens)?;
-        assert!(rt; first_unbuilt(&tree) == *wanted);
+        let tree = tree(alloc, tokens)?;
+        if first_unbuilt(&tree) != *wanted {
+            return Ok(false);
+        }
     }
-    Ok(())
+    Ok(true)
+}
+
+/// Two tokens.
+pub fn keeps_tokens_in_order(alloc: Global) -> Result<bool, AllocError> {
+    let mut tokens = Tokens::new(alloc, 9);
+    tokens.push(Token {
+        kind: Kind::LowerName,
+        at: 0,
+        content: Content::Characters(Text::of(alloc, "f")?),
+    })?;
+    tokens.push(Token {
+        kind: Kind::Integer,
+        at: 2,
+        content: Content::Number(7),
+    })?;
+    if tokens.len() != 2 || tokens.end() != 9 {
+        return Ok(false);
+    }
+    let second = tokens.at(1);
+    Ok(
+        second.kind == Kind::Integer
+            && second.at == 2
+            && matches!(second.content, Content::Number(7)),
+    )
 }

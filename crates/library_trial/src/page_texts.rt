@@ -1,8 +1,8 @@
-//! Pages and their texts, as a browser gets them.
+//! Pages and their texts, as a browser gets them: each kind of tag and attribute, sinks that fail, and the longest pages.
 ghost use Rattle.std.specs.Prelude.{◌≡◌, [], IfOk};
 ghost use Rattle.xml_trees.specs.Trees.{Whole, Within, Nothing, built, built_and, ended, IsWhole, trees_of};
 
-use crate::{PageFault, page_length, write_page};
+use page_bytes::{PageFault, page_length, write_page};
 use std::alloc::{AllocError, Global};
 use std::str;
 use table_rows::Text;
@@ -41,14 +41,11 @@ fn shown(alloc: Global, page: &Page) -> Result<(Vec<u8>, u64), AllocError>
     }
 }
 
-#[test]
-fn empty_body(rt: HostRuntime) -> Result<(), AllocError> {
-    let alloc = rt.alloc();
+/// The text of a page in which nothing stands.
+pub fn empty_body(alloc: Global) -> Result<bool, AllocError> {
     let body = element(alloc, Tag::Body, Attrs::new(alloc), &Page::new(alloc))?;
     let (text, length) = shown(alloc, &body)?;
-    assert!(rt; text.as_slice() == b"<!DOCTYPE html><html><body></body></html>".as_slice());
-    assert_eq!(rt; length, 41);
-    Ok(())
+    Ok(text.as_slice() == b"<!DOCTYPE html><html><body></body></html>".as_slice() && length == 41)
 }
 
 /// The text of one element with at most one attribute, between those of `html`.
@@ -178,9 +175,8 @@ fn cases(alloc: Global) -> Result<Vec<Case>, AllocError> {
     Ok(all)
 }
 
-#[test]
-fn elements(rt: HostRuntime) -> Result<(), AllocError> {
-    let alloc = rt.alloc();
+/// Each case's text.
+pub fn elements(alloc: Global) -> Result<bool, AllocError> {
     for case in cases(alloc)? {
         let Case {
             tag,
@@ -189,9 +185,11 @@ fn elements(rt: HostRuntime) -> Result<(), AllocError> {
             want,
         } = case;
         let text = tag_text(alloc, tag, attr, inside)?;
-        assert_eq!(rt; str::from_utf8(text.as_slice()).unwrap_or("no text"), want);
+        if str::from_utf8(text.as_slice()).unwrap_or("no text") != want {
+            return Ok(false);
+        }
     }
-    Ok(())
+    Ok(true)
 }
 
 /// A page whose text is longer than what is gathered.
@@ -205,23 +203,36 @@ fn long_page(alloc: Global) -> Result<Page, AllocError>
     Ok(page)
 }
 
-#[test]
-fn failing_sinks(rt: HostRuntime) -> Result<(), AllocError> {
-    let alloc = rt.alloc();
-    let page = long_page(alloc)?;
-    let mut failing = MemSink::new(alloc, 65536, vec![in alloc; 0]?);
-    assert!(rt; write_page(&page, &mut failing).is_err());
-    assert_eq!(rt; failing.written().len(), 0);
-    let mut failing = MemSink::new(alloc, 65536, vec![in alloc; 1]?);
-    assert!(rt; write_page(&page, &mut failing).is_err());
-    assert!(rt; failing.written().starts_with(b"<!DOCTYPE html><html>aaaa"));
+/// A sink that fails at its first call and one that fails at its second.
+fn sinks_that_fail(alloc: Global, page: &Page) -> Result<bool, AllocError>
+    requires { IsWhole (built page.now) }
+{
+    let mut first = MemSink::new(alloc, 65536, vec![in alloc; 0]?);
+    let nothing = write_page(page, &mut first).is_err() && first.written().is_empty();
+    let mut second = MemSink::new(alloc, 65536, vec![in alloc; 1]?);
+    let front = write_page(page, &mut second).is_err()
+        && second.written().starts_with(b"<!DOCTYPE html><html>aaaa");
+    Ok(nothing && front)
+}
+
+/// A sink that takes nothing, and one that takes seven bytes in a call.
+fn sinks_that_take_little(alloc: Global, page: &Page) -> bool
+    requires { IsWhole (built page.now) }
+{
     let mut stalling = MemSink::new(alloc, 0, Vec::new(alloc));
-    assert!(rt; write_page(&page, &mut stalling).is_err());
+    let stalled = write_page(page, &mut stalling).is_err();
     let mut slow = MemSink::new(alloc, 7, Vec::new(alloc));
-    assert!(rt; write_page(&page, &mut slow).is_ok());
-    assert_eq!(rt; slow.written().len(), 20_028);
-    assert_eq!(rt; page_length(&page), 20_028);
-    Ok(())
+    stalled && write_page(page, &mut slow).is_ok() && slow.written().len() == 20_028
+}
+
+/// A long page to sinks that fail, take nothing or take little.
+pub fn failing_sinks(alloc: Global) -> Result<bool, AllocError> {
+    let page = long_page(alloc)?;
+    Ok(
+        sinks_that_fail(alloc, &page)?
+            && sinks_that_take_little(alloc, &page)
+            && page_length(&page) == 20_028,
+    )
 }
 
 /// Pages at the length that a page may have, and past it: the length of their text, and what `page_length` tells.
@@ -231,15 +242,15 @@ const AT_THE_LIMIT: [(usize, u64); 3] = [
     (16_777_218, 16_777_217),
 ];
 
-#[test]
-fn longest_pages(rt: HostRuntime) -> Result<(), AllocError> {
-    let alloc = rt.alloc();
+/// Pages of just the greatest length, and longer ones.
+pub fn longest_pages(alloc: Global) -> Result<bool, AllocError> {
     for (length, told) in AT_THE_LIMIT {
         let frame = 28;
         let inside = "a".repeat(alloc, length.saturating_sub(frame))?;
         let (text, found) = shown(alloc, &words(alloc, inside.as_str())?)?;
-        assert_eq!(rt; text.len(), length);
-        assert_eq!(rt; found, told);
+        if text.len() != length || found != told {
+            return Ok(false);
+        }
     }
-    Ok(())
+    Ok(true)
 }

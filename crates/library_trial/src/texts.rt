@@ -1,0 +1,70 @@
+//! Texts, lists, and values as they travel in links: that memory serves for long ones, and that copies keep the order.
+use std::alloc::{AllocError, Global};
+use table_rows::wire::copy_wires;
+use table_rows::{Bytes, Text, Texts, Wire, Wires};
+
+/// A text of characters and a text behind it, kept in a list.
+pub fn texts_keep_their_bytes(alloc: Global) -> Result<bool, AllocError> {
+    let mut text = Text::of(alloc, "a")?;
+    text.push('é')?;
+    text.push_str("&b")?;
+    let mut texts = Texts::new(alloc);
+    texts.push(Text::new(alloc))?;
+    texts.push(text.copy(alloc)?)?;
+    Ok(texts.len() == 2 && texts.at(1).as_str() == "aé&b" && texts.at(1).len() == 5)
+}
+
+/// A text and a list of bytes of a million pieces each, and a copy of the text behind itself.
+fn long_texts(alloc: Global) -> Result<bool, AllocError> {
+    let mut text = Text::new(alloc);
+    let mut bytes = Bytes::new(alloc);
+    for _ in 0..1_000_000 {
+        text.push('ä')?;
+        bytes.push(7)?;
+    }
+    if text.len() != 2_000_000 || bytes.len() != 1_000_000 {
+        return Ok(false);
+    }
+    let copy = text.copy(alloc)?;
+    if copy.as_str() != text.as_str() {
+        return Ok(false);
+    }
+    text.push_str(copy.as_str())?;
+    Ok(text.len() == 4_000_000)
+}
+
+/// Lists of a hundred thousand texts and values, and a copy of one.
+fn long_lists(alloc: Global) -> Result<bool, AllocError> {
+    let mut texts = Texts::new(alloc);
+    let mut wires = Wires::new(alloc);
+    for _ in 0..100_000 {
+        texts.push(Text::of(alloc, "text")?)?;
+        wires.push(Wire::Words(Text::of(alloc, "text")?))?;
+    }
+    let copies = copy_wires(alloc, &wires)?;
+    Ok(
+        texts.len() == 100_000
+            && texts.at(99_999).as_str() == "text"
+            && copies.len() == 100_000
+            && matches!(copies.at(99_999), Wire::Words(_)),
+    )
+}
+
+/// Long texts and long lists.
+pub fn long_texts_and_lists(alloc: Global) -> Result<bool, AllocError> {
+    Ok(long_texts(alloc)? && long_lists(alloc)?)
+}
+
+/// A copy of two values.
+pub fn a_copy_keeps_the_order(alloc: Global) -> Result<bool, AllocError> {
+    let mut wires = Wires::new(alloc);
+    wires.push(Wire::Int(-7))?;
+    let held = Box::new(alloc, Wire::Words(Text::of(alloc, "é")?))?;
+    wires.push(Wire::Tagged(Text::of(alloc, "Some")?, Some(held)))?;
+    let copied = copy_wires(alloc, &wires)?;
+    Ok(
+        copied.len() == 2
+            && matches!(copied.at(0), Wire::Int(-7))
+            && matches!(copied.at(1), Wire::Tagged(_, Some(_))),
+    )
+}
