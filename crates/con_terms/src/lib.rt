@@ -13,5 +13,3 @@ pub mod rebuild;
 pub mod size;
 pub mod substitute;
 pub mod symbol;
-#[cfg(test)]
-mod tests;

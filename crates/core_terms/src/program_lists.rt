@@ -298,27 +298,3 @@ impl Exports {
         self.items[i]
     }
 }
-
-#[cfg(test)]
-mod tests {
-    use super::*;
-    use table_rows::Text;
-
-    #[test]
-    fn lists_keep_their_order(rt: HostRuntime) -> Result<(), AllocError> {
-        let mut exports = Exports::new(rt.alloc());
-        exports.push(5)?;
-        exports.push(3)?;
-        assert_eq!(rt; exports.len(), 2);
-        assert_eq!(rt; exports.at(0), 5);
-        assert_eq!(rt; exports.at(1), 3);
-        let mut rules = Rules::new(rt.alloc());
-        rules.push(Rule {
-            allow: true,
-            pattern: Text::of(rt.alloc(), "https://a.example/*")?,
-        })?;
-        assert_eq!(rt; rules.len(), 1);
-        assert!(rt; rules.at(0).allow);
-        Ok(())
-    }
-}

@@ -3,8 +3,6 @@
 
 pub mod names;
 pub mod shapes;
-#[cfg(test)]
-mod tests;
 pub mod told;
 
 pub use told::{Told, told_of_check, told_of_elaboration};

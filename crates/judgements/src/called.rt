@@ -37,21 +37,3 @@ fn add_names(called: &Called, names: &mut Symbols) -> Result<(), AllocError>
         }
     }
 }
-
-#[cfg(test)]
-mod tests {
-    use super::*;
-
-    #[test]
-    fn the_innermost_comes_first(rt: HostRuntime) -> Result<(), AllocError> {
-        let outer = Rc::new(rt.alloc(), Called::Nothing).map_err(AllocError::from)?;
-        let one = Called::Under(Sym { number: 5 }, outer);
-        let one = Rc::new(rt.alloc(), one).map_err(AllocError::from)?;
-        let two = Called::Under(Sym { number: 7 }, one);
-        let names = names_called(rt.alloc(), &two)?;
-        assert_eq!(rt; names.len(), 2);
-        assert_eq!(rt; names.at(0).number, 7);
-        assert_eq!(rt; names.at(1).number, 5);
-        Ok(())
-    }
-}

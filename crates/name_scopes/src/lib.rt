@@ -10,8 +10,6 @@ pub mod known;
 pub mod layers;
 pub mod scope;
 pub mod table;
-#[cfg(test)]
-mod tests;
 pub mod tops;
 
 pub use fault::ElabFault;

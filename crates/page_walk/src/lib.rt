@@ -3,8 +3,6 @@
 
 mod bound;
 pub mod links;
-#[cfg(test)]
-mod tests;
 pub mod trees;
 
 pub use links::link_of;

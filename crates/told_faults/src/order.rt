@@ -16,18 +16,3 @@ pub fn stands_before(place: Place, other: Place) -> bool
         place.at < other.at
     }
 }
-
-#[cfg(test)]
-mod tests {
-    use super::*;
-
-    #[test]
-    fn files_count_before_bytes(rt: HostRuntime) {
-        let first = Place { file: 0, at: 9 };
-        let second = Place { file: 1, at: 3 };
-        assert!(rt; stands_before(first, second));
-        assert!(rt; !stands_before(second, first));
-        assert!(rt; !stands_before(first, first));
-        assert!(rt; stands_before(Place { file: 1, at: 2 }, second));
-    }
-}

@@ -56,24 +56,3 @@ pub fn first(k: Option<Fault>, l: Option<Fault>) -> Option<Fault>
         },
     }
 }
-
-#[cfg(test)]
-mod tests {
-    use super::*;
-
-    fn fault(file: u32, at: u32) -> Option<Fault> {
-        Some(Fault::TooLarge(Place { file, at }))
-    }
-
-    #[test]
-    fn the_earlier_is_told_and_the_first_on_a_tie(rt: HostRuntime) {
-        let told = first(fault(0, 9), fault(0, 3));
-        assert!(rt; matches!(told, Some(Fault::TooLarge(Place { file: 0, at: 3 }))));
-        let told = first(fault(1, 3), fault(0, 9));
-        assert!(rt; matches!(told, Some(Fault::TooLarge(Place { file: 0, at: 9 }))));
-        let told = first(Some(Fault::NotBuilt(Place { file: 0, at: 3 })), fault(0, 3));
-        assert!(rt; matches!(told, Some(Fault::NotBuilt(_))));
-        let told = first(None, fault(0, 3));
-        assert!(rt; matches!(told, Some(Fault::TooLarge(_))));
-    }
-}

@@ -15,8 +15,6 @@ mod rows;
 pub mod sides;
 pub mod slots;
 pub mod store;
-#[cfg(test)]
-mod tests;
 
 pub use fault::FitFault;
 pub use fill::{filled, lowered, told};

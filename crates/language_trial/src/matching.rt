@@ -1,13 +1,9 @@
-//! Matching, tried.
-use crate::fault::FitFault;
-use crate::matching::fit;
-use crate::store::Found;
+//! Matching a row with a pattern whose rest is unknown.
 use con_terms::con::{Con, Pair, Pairs};
 use con_terms::kind::Kind;
 use con_terms::symbol::Sym;
 use std::alloc::{AllocError, Global};
-use std::process::Abort;
-use std::test::Fail;
+use unknowns::{FitFault, Found, fit};
 
 /// The field with this name, of a basic type.
 fn field(name: u32, basic: u32) -> Pair {
@@ -48,40 +44,36 @@ fn number(c: &Con) -> u32 {
     }
 }
 
-#[test]
-fn the_rest_of_a_row_keeps_its_order(rt: HostRuntime) -> Result<(), Fail> {
-    let alloc = rt.alloc();
-    let mut found = one_row(alloc)?;
+/// A row of one field and an unknown rest.
+fn field_and_rest(alloc: Global) -> Result<Con, AllocError> {
     let mut literal = Pairs::new(alloc);
     literal.push(field(7, 1))?;
     let first = Box::new(alloc, row(alloc, literal)?)?;
-    let pattern = Con::Cat(first, Box::new(alloc, Con::Var(0))?);
+    Ok(Con::Cat(first, Box::new(alloc, Con::Var(0))?))
+}
+
+/// A row that has the field between two others.
+pub fn the_rest_of_a_row_keeps_its_order(alloc: Global) -> Result<bool, AllocError> {
+    let mut found = one_row(alloc)?;
+    let pattern = field_and_rest(alloc)?;
     let mut fields = Pairs::new(alloc);
     fields.push(field(9, 1))?;
     fields.push(field(7, 1))?;
     fields.push(field(8, 2))?;
     let actual = row(alloc, fields)?;
-    assert!(rt; fit(alloc, &pattern, &actual, &mut found).is_ok());
-    assert_eq!(rt; names(found.answer(0)), (9, 8, 2));
-    Ok(())
+    Ok(fit(alloc, &pattern, &actual, &mut found).is_ok() && names(found.answer(0)) == (9, 8, 2))
 }
 
-#[test]
-fn a_row_without_the_field_differs(rt: HostRuntime) -> Result<(), Fail> {
-    let alloc = rt.alloc();
+/// A row that has another field.
+pub fn a_row_without_the_field_differs(alloc: Global) -> Result<bool, AllocError> {
     let mut found = one_row(alloc)?;
-    let mut literal = Pairs::new(alloc);
-    literal.push(field(7, 1))?;
-    let first = Box::new(alloc, row(alloc, literal)?)?;
-    let pattern = Con::Cat(first, Box::new(alloc, Con::Var(0))?);
+    let pattern = field_and_rest(alloc)?;
     let mut fields = Pairs::new(alloc);
     fields.push(field(9, 1))?;
     let actual = row(alloc, fields)?;
-    let differs = match fit(alloc, &pattern, &actual, &mut found) {
-        Err(FitFault::Differ(_)) => true,
-        _ => false,
-    };
-    assert!(rt; differs);
-    assert!(rt; found.is_open(0));
-    Ok(())
+    let differs = matches!(
+        fit(alloc, &pattern, &actual, &mut found),
+        Err(FitFault::Differ(_))
+    );
+    Ok(differs && found.is_open(0))
 }
