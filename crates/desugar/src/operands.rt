@@ -83,7 +83,8 @@ struct Names {
     is_value: bool,
 }
 
-/// The longest path that begins with this upper-case name: further upper-case names, and then a lower-case name or none.
+/// The longest path that begins with this upper-case name: further upper-case names, and then a lower-case name
+/// or none.
 /// So many dots may belong to it; what doesn't is a projection.
 fn names_from(
     alloc: Global,

@@ -208,7 +208,8 @@ fn token(alloc: Global, leaves: &[Token], place: usize) -> Result<Token, AllocEr
     Ok(word_of(leaf(alloc, leaves, place)?))
 }
 
-/// What the trees of a repetition stand for, by the listing. The repetition's own marks are the only ones that are left.
+/// What the trees of a repetition stand for, by the listing. The repetition's own marks are the only ones that are
+/// left.
 pub fn read(alloc: Global, tree: &Tree) -> Result<Stacks, AllocError> {
     let leaves = tree.leaves();
     let mut next = leaves.len();
