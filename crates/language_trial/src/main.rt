@@ -1,8 +1,10 @@
-//! Tries the libraries of the language: constructors, terms, matching for unknowns, scopes, the values of a run, and the
-//! lines of faults. Each trial is a line of the output, which says whether all came out as it was written down beforehand.
+//! Tries the libraries of the language: constructors, terms, matching for unknowns, scopes, the values of a run,
+//! and the lines of faults. Each trial is a line of the output, which says whether all came out as it was written
+//! down beforehand.
 //!
-//! The clauses of the libraries say what their calls give; a trial shows what no clause can: that memory and stack serve
-//! for the deepest input, that a definition means what a person expects, and what calls with no clause of their own do.
+//! The clauses of the libraries say what their calls give; a trial shows what no clause can: that memory and stack
+//! serve for the deepest input, that a definition means what a person expects, and what calls with no clause of
+//! their own do.
 #![tactic(auto)]
 
 mod constructors;

@@ -1,4 +1,5 @@
-//! Pages and their texts, as a browser gets them: each kind of tag and attribute, sinks that fail, and the longest pages.
+//! Pages and their texts, as a browser gets them: each kind of tag and attribute, sinks that fail, and the longest
+//! pages.
 ghost use Rattle.std.specs.Prelude.{◌≡◌, [], IfOk};
 ghost use Rattle.xml_trees.specs.Trees.{Whole, Within, Nothing, built, built_and, ended, IsWhole, trees_of};
 
