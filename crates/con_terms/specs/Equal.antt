@@ -1,8 +1,7 @@
 -- Which constructors are equal: the least congruence with these laws.
 -- The Ur/Web Manual, "Definitional Equality".
 use Rattle.std.specs.Prelude.{◌≡◌, ℕ, Bool, Some, slice_get}
-use Rattle.con_terms.specs.Trees.{Kd, Cn, var, arrow, poly, guarded, record_of, app, lambda, row, cat, map_of, tuple}
-use Rattle.con_terms.specs.Trees.{proj, Cns, no_cons, con, con_list, Prs, no_pairs, pair}
+use Rattle.con_terms.specs.Trees.{Kd, Cn, var, arrow, poly, guarded, record_of, app, lambda, row, cat, map_of, tuple, proj, Cns, no_cons, con, con_list, Prs, no_pairs, pair}
 use Rattle.con_terms.specs.Substitution.{shift, subst}
 
 -- fn x :: k => x

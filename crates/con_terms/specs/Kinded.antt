@@ -1,9 +1,7 @@
 -- Which constructors have which kind.
 -- The Ur/Web Manual, "Kinding".
 use Rattle.std.specs.Prelude.{◌≡◌, ℕ, Bool, ◌==◌, List, [], ◌∷◌, Option, Some, None, slice_get, map, if◌then◌else◌}
-use Rattle.con_terms.specs.Trees.{Kd, types, units, names, row_of, to, tuple_of, Kds, no_kinds, kind, kind_list, Cn}
-use Rattle.con_terms.specs.Trees.{var, basic, arrow, poly, guarded, record_of, app, lambda, unit_con, name, row, cat}
-use Rattle.con_terms.specs.Trees.{map_of, tuple, proj, Cns, no_cons, con, Prs, no_pairs, pair, names_of}
+use Rattle.con_terms.specs.Trees.{Kd, types, units, names, row_of, to, tuple_of, Kds, no_kinds, kind, kind_list, Cn, var, basic, arrow, poly, guarded, record_of, app, lambda, unit_con, name, row, cat, map_of, tuple, proj, Cns, no_cons, con, Prs, no_pairs, pair, names_of}
 use Rattle.con_terms.specs.Substitution.{shift}
 use Rattle.con_terms.specs.Apart.{Guards, Apart, PairwiseApart}
 

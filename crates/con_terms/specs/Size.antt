@@ -1,8 +1,6 @@
 -- How large a constructor is: its numbers, its binders, its depth.
 use Rattle.std.specs.Prelude.{ℕ, suc, ◌<◌, ◌^◌, max}
-use Rattle.con_terms.specs.Trees.{Kd, types, units, names, row_of, to, tuple_of, Kds, no_kinds, kind, Cn, var, basic}
-use Rattle.con_terms.specs.Trees.{arrow, poly, guarded, record_of, app, lambda, unit_con, name, row, cat, map_of, tuple}
-use Rattle.con_terms.specs.Trees.{proj, Cns, no_cons, con, Prs, no_pairs, pair}
+use Rattle.con_terms.specs.Trees.{Kd, types, units, names, row_of, to, tuple_of, Kds, no_kinds, kind, Cn, var, basic, arrow, poly, guarded, record_of, app, lambda, unit_con, name, row, cat, map_of, tuple, proj, Cns, no_cons, con, Prs, no_pairs, pair}
 
 -- the largest number of a variable, or 0
 abbrev mutual

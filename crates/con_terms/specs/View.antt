@@ -1,8 +1,6 @@
 -- The tree that a value of the program is.
 use Rattle.std.specs.Prelude.{List, [], ◌∷◌}
-use Rattle.con_terms.specs.Trees.{Kd, types, units, names, row_of, to, tuple_of, Kds, no_kinds, kind, Cn, var, basic}
-use Rattle.con_terms.specs.Trees.{arrow, poly, guarded, record_of, app, lambda, unit_con, name, row, cat, map_of, tuple}
-use Rattle.con_terms.specs.Trees.{proj, Cns, no_cons, con, Prs, no_pairs, pair}
+use Rattle.con_terms.specs.Trees.{Kd, types, units, names, row_of, to, tuple_of, Kds, no_kinds, kind, Cn, var, basic, arrow, poly, guarded, record_of, app, lambda, unit_con, name, row, cat, map_of, tuple, proj, Cns, no_cons, con, Prs, no_pairs, pair}
 use Rattle.con_terms.specs.declared.kind.Kind.{Kind}
 use Rattle.con_terms.specs.declared.kind.Kinds.{Kinds}
 use Rattle.con_terms.specs.declared.kind.Kind.TheOpen.{Kind-F, Kinds-F}

@@ -1,8 +1,7 @@
 //! How large a constructor is.
 
 ghost use Rattle.std.specs.Prelude.{◌≡◌, ◌<◌, ◌≤◌, ◌+◌, ◌^◌, ◌↔◌, IsTrue};
-ghost use Rattle.con_terms.specs.Size.{HasRoom, depth, depth_all, depth_pairs, kind_depth, kinds_depth, nest, nest_all};
-ghost use Rattle.con_terms.specs.Size.{nest_pairs, top, top_all, top_pairs};
+ghost use Rattle.con_terms.specs.Size.{HasRoom, depth, depth_all, depth_pairs, kind_depth, kinds_depth, nest, nest_all, nest_pairs, top, top_all, top_pairs};
 ghost use Rattle.con_terms.specs.View.{con_tree, cons_tree, kind_tree, kinds_tree, pair_tree, pairs_tree};
 
 use crate::con::{Con, Cons, Pair, Pairs};

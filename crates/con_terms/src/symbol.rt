@@ -1,7 +1,6 @@
 //! Symbols: texts by number.
 
-ghost use Rattle.std.specs.Prelude.{◌≡◌, ◌<◌, ◌≤◌, ◌^◌, ◌↔◌, [], None, Some, length, map, option_map, slice_get, IfOk};
-ghost use Rattle.std.specs.Prelude.{IfSome, IsSome, OnOk, OnErr};
+ghost use Rattle.std.specs.Prelude.{◌≡◌, ◌<◌, ◌≤◌, ◌^◌, ◌↔◌, [], None, Some, length, map, option_map, slice_get, IfOk, IfSome, IsSome, OnOk, OnErr};
 ghost use Rattle.std.specs.List.{Contains, IsDistinct};
 ghost use Rattle.std.specs.Str.{bytes_eq};
 ghost use Rattle.std.specs.String.{string_bytes};

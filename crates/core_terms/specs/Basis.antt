@@ -2,19 +2,10 @@
 -- The Ur/Web Manual, "The Ur Standard Library" and "The Ur/Web Standard Library"; the order of implicit arguments and
 -- guards is this project's own.
 use Rattle.std.specs.Prelude.{ℕ, [], ◌∷◌, true, false}
-use Rattle.con_terms.specs.Trees.{Kd, types, units, names, row_of, to, Cn, var, basic, arrow, poly, guarded, app}
-use Rattle.con_terms.specs.Trees.{unit_con, row, cat, no_pairs, pair}
+use Rattle.con_terms.specs.Trees.{Kd, types, units, names, row_of, to, Cn, var, basic, arrow, poly, guarded, app, unit_con, row, cat, no_pairs, pair}
 use Rattle.core_terms.specs.declared.basis.BasisName.{BasisName}
-use Rattle.core_terms.specs.declared.basis.BasisName.TheVariants.{Return, Bind, Error, Not, Strcat, Plus, Minus, Times}
-use Rattle.core_terms.specs.declared.basis.BasisName.TheVariants.{Divide, Mod, Neg, Eq, Ne, Lt, Le, Show, MkShow, MkEq}
-use Rattle.core_terms.specs.declared.basis.BasisName.TheVariants.{Txt, Cdata, Join, Bless, Query, QueryX, OneRow}
-use Rattle.core_terms.specs.declared.basis.BasisName.TheVariants.{OneOrNoRows, Dml, Nextval, GetCookie, SetCookie}
-use Rattle.core_terms.specs.declared.basis.BasisName.TheVariants.{ClearCookie, NumInt, ShowInt, ShowString, ShowBool}
-use Rattle.core_terms.specs.declared.basis.BasisName.TheVariants.{EqInt, EqString, EqBool, OrdInt, OrdString, OrdBool}
-use Rattle.core_terms.specs.declared.basis.BasisName.TheVariants.{SqlInt, SqlString, SqlBool}
-use Rattle.core_terms.specs.Types.{int_type, string_type, url_type, bool_type, no_types, unit_type, transaction_of}
-use Rattle.core_terms.specs.Types.{option_of, show_of, eq_of, ord_of, num_of, xml_of, body_type, query_of, dml_type}
-use Rattle.core_terms.specs.Types.{sequence_type, cookie_of, injectable_of, result_of, setting_of, for_type, function}
+use Rattle.core_terms.specs.declared.basis.BasisName.TheVariants.{Return, Bind, Error, Not, Strcat, Plus, Minus, Times, Divide, Mod, Neg, Eq, Ne, Lt, Le, Show, MkShow, MkEq, Txt, Cdata, Join, Bless, Query, QueryX, OneRow, OneOrNoRows, Dml, Nextval, GetCookie, SetCookie, ClearCookie, NumInt, ShowInt, ShowString, ShowBool, EqInt, EqString, EqBool, OrdInt, OrdString, OrdBool, SqlInt, SqlString, SqlBool}
+use Rattle.core_terms.specs.Types.{int_type, string_type, url_type, bool_type, no_types, unit_type, transaction_of, option_of, show_of, eq_of, ord_of, num_of, xml_of, body_type, query_of, dml_type, sequence_type, cookie_of, injectable_of, result_of, setting_of, for_type, function}
 
 -- t ::: Type -> num t -> t -> t -> t
 abbrev pub two_numbers : Cn

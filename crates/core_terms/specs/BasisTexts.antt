@@ -6,11 +6,8 @@ use Rattle.core_terms.specs.declared.basis.BasisName.{BasisName}
 use Rattle.core_terms.specs.declared.basis.BasisName.TheVariants as value
 use Rattle.core_terms.specs.declared.basis.TypeName.{TypeName}
 use Rattle.core_terms.specs.declared.basis.TypeName.TheVariants as type_name
-use Rattle.core_terms.specs.Names.{option_name, list_name, transaction_name, xml_name, show_name, eq_name, ord_name}
-use Rattle.core_terms.specs.Names.{num_name, sql_table_name, sql_query_name, sql_exp_name, http_cookie_name}
-use Rattle.core_terms.specs.Names.{sql_injectable_name}
-use Rattle.core_terms.specs.Types.{int_type, string_type, url_type, bool_type, unit_type, page_type, body_type}
-use Rattle.core_terms.specs.Types.{table_type, tr_type, dml_type, sequence_type}
+use Rattle.core_terms.specs.Names.{option_name, list_name, transaction_name, xml_name, show_name, eq_name, ord_name, num_name, sql_table_name, sql_query_name, sql_exp_name, http_cookie_name, sql_injectable_name}
+use Rattle.core_terms.specs.Types.{int_type, string_type, url_type, bool_type, unit_type, page_type, body_type, table_type, tr_type, dml_type, sequence_type}
 
 -- the name of a value
 abbrev pub value_text : BasisName → List ℕ

@@ -4,8 +4,7 @@ use Rattle.std.specs.Prelude.{ℕ, zero, suc, ◌==◌, List, [], ◌∷◌, ◌
 use Rattle.con_terms.specs.Trees.{Cn, var, basic, arrow, record_of, name, no_pairs, pair}
 use Rattle.con_terms.specs.Substitution.{shift, subst}
 use Rattle.con_terms.specs.declared.place.Place.{Place}
-use Rattle.core_terms.specs.Names.{bool_name, option_name, list_name, first_name, second_name, false_name, true_name}
-use Rattle.core_terms.specs.Names.{none_name, some_name, nil_name, cons_name, parameter_name}
+use Rattle.core_terms.specs.Names.{bool_name, option_name, list_name, first_name, second_name, false_name, true_name, none_name, some_name, nil_name, cons_name, parameter_name}
 use Rattle.core_terms.specs.Types.{at_types, type_row, for_types}
 use Rattle.core_terms.specs.Trees.{Cd, Dt, arity}
 

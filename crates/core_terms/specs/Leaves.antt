@@ -4,18 +4,9 @@
 use Rattle.std.specs.Prelude.{ℕ, ◌<◌, List, Option, Some, None, IsUtf8, FitsSigned}
 use Rattle.std.specs.Int.{w64}
 use Rattle.std.specs.List.{AllByRecursion}
-use Rattle.con_terms.specs.Trees.{Cn, var, basic, arrow, poly, guarded, record_of, app, lambda, unit_con, name, row}
-use Rattle.con_terms.specs.Trees.{cat, map_of, tuple, proj, Cns, no_cons, con, Prs, no_pairs, pair}
+use Rattle.con_terms.specs.Trees.{Cn, var, basic, arrow, poly, guarded, record_of, app, lambda, unit_con, name, row, cat, map_of, tuple, proj, Cns, no_cons, con, Prs, no_pairs, pair}
 use Rattle.con_terms.specs.declared.place.Place.{Place}
-use Rattle.core_terms.specs.Trees.{Pt, pattern, Pf, any, binds, is_number, is_text, is_bare, is_holding, has_fields}
-use Rattle.core_terms.specs.Trees.{annotated, Pfs, no_pat_fields, pat_field, Ex, node, Fo, bound, top, foreign, basis}
-use Rattle.core_terms.specs.Trees.{fold_over, number, text, built, fn, fn_con, fn_guard, call, let_in, case_of}
-use Rattle.core_terms.specs.Trees.{ascribed, fields_of, select, concat, without, without_row, folder, element, literal}
-use Rattle.core_terms.specs.Trees.{sql, Its, no_items, with_term, with_con, with_guard, Nms, no_named, named, Los}
-use Rattle.core_terms.specs.Trees.{no_locals, local_val, local_rec, Brs, no_branches, branch, Fds, no_fields, field, El}
-use Rattle.core_terms.specs.Trees.{tagged, Ats, no_attributes, attribute, Xs, no_nodes, a_node, Exs, no_exps, an_exp}
-use Rattle.core_terms.specs.Trees.{Th, a_table, a_sequence, a_cookie, a_given, Cd, Dt, De, val, vals, con_is, datatype}
-use Rattle.core_terms.specs.Trees.{thing}
+use Rattle.core_terms.specs.Trees.{Pt, pattern, Pf, any, binds, is_number, is_text, is_bare, is_holding, has_fields, annotated, Pfs, no_pat_fields, pat_field, Ex, node, Fo, bound, top, foreign, basis, fold_over, number, text, built, fn, fn_con, fn_guard, call, let_in, case_of, ascribed, fields_of, select, concat, without, without_row, folder, element, literal, sql, Its, no_items, with_term, with_con, with_guard, Nms, no_named, named, Los, no_locals, local_val, local_rec, Brs, no_branches, branch, Fds, no_fields, field, El, tagged, Ats, no_attributes, attribute, Xs, no_nodes, a_node, Exs, no_exps, an_exp, Th, a_table, a_sequence, a_cookie, a_given, Cd, Dt, De, val, vals, con_is, datatype, thing}
 
 abbrev mutual
   -- each literal name in a constructor is one of so many symbols

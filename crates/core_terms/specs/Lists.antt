@@ -2,25 +2,15 @@
 use Rattle.std.specs.Prelude.{ℕ, List, [], ◌∷◌, map}
 use Rattle.con_terms.specs.Trees.{Kd}
 use Rattle.con_terms.specs.declared.place.Place.{Place}
-use Rattle.core_terms.specs.Trees.{Pt, Pf, Pfs, no_pat_fields, pat_field, Ex, Fo, Its, no_items, with_term, with_con}
-use Rattle.core_terms.specs.Trees.{with_guard, Nms, no_named, named, Los, no_locals, local_val, local_rec, Brs}
-use Rattle.core_terms.specs.Trees.{no_branches, branch, Fds, no_fields, field, El, Ats, no_attributes, attribute, Xs}
-use Rattle.core_terms.specs.Trees.{no_nodes, a_node, Exs, no_exps, an_exp, It, a_term, a_con, a_guard, Lo, a_val, a_rec}
-use Rattle.core_terms.specs.Trees.{Cd, Ru}
-use Rattle.core_terms.specs.View.{PatFieldTree, AttributeTree, BranchTree, FieldTree, NamedTree, NodeTree, LiteralTree}
-use Rattle.core_terms.specs.View.{pat_form_step, pat_step, pat_field_step, pat_fields_step, form_step, item_step}
-use Rattle.core_terms.specs.View.{local_step, attribute_step, attributes_step, branch_step, branches_step, element_step}
-use Rattle.core_terms.specs.View.{exp_step, exps_step, field_step, fields_step, items_step, literal_step, locals_step}
-use Rattle.core_terms.specs.View.{named_step, named_list_step, node_step, nodes_step, constructor_view, column_view}
-use Rattle.core_terms.specs.View.{rule_view, foreign_view, folder_view}
+use Rattle.core_terms.specs.Trees.{Pt, Pf, Pfs, no_pat_fields, pat_field, Ex, Fo, Its, no_items, with_term, with_con, with_guard, Nms, no_named, named, Los, no_locals, local_val, local_rec, Brs, no_branches, branch, Fds, no_fields, field, El, Ats, no_attributes, attribute, Xs, no_nodes, a_node, Exs, no_exps, an_exp, It, a_term, a_con, a_guard, Lo, a_val, a_rec, Cd, Ru}
+use Rattle.core_terms.specs.View.{PatFieldTree, AttributeTree, BranchTree, FieldTree, NamedTree, NodeTree, LiteralTree, pat_form_step, pat_step, pat_field_step, pat_fields_step, form_step, item_step, local_step, attribute_step, attributes_step, branch_step, branches_step, element_step, exp_step, exps_step, field_step, fields_step, items_step, literal_step, locals_step, named_step, named_list_step, node_step, nodes_step, constructor_view, column_view, rule_view, foreign_view, folder_view}
 use Rattle.core_terms.specs.declared.exp.Item.{Item}
 use Rattle.core_terms.specs.declared.exp.Local.{Local}
 use Rattle.core_terms.specs.declared.exp.Branch.{Branch}
 use Rattle.core_terms.specs.declared.exp.Field.{Field}
 use Rattle.core_terms.specs.declared.exp.Attribute.{Attribute}
 use Rattle.core_terms.specs.declared.exp.Node.{Node}
-use Rattle.core_terms.specs.declared.exp.Form.TheFolds.{fold-Item, fold-Local, fold-Branch, fold-Field, fold-Attribute}
-use Rattle.core_terms.specs.declared.exp.Form.TheFolds.{fold-Node}
+use Rattle.core_terms.specs.declared.exp.Form.TheFolds.{fold-Item, fold-Local, fold-Branch, fold-Field, fold-Attribute, fold-Node}
 use Rattle.core_terms.specs.declared.pat.PatField.{PatField}
 use Rattle.core_terms.specs.declared.pat.PatForm.TheFolds.{fold-PatField}
 use Rattle.core_terms.specs.declared.decl.Constructors.{Constructors}

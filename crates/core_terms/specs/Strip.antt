@@ -10,14 +10,7 @@ use Rattle.core_terms.specs.declared.exp.Sigil.{Sigil}
 use Rattle.core_terms.specs.declared.exp.Sigil.TheVariants.{Plain}
 use Rattle.core_terms.specs.declared.exp.ConOrigin.{ConOrigin}
 use Rattle.core_terms.specs.declared.exp.ConOrigin.TheVariants.{Written, Inserted, Wild}
-use Rattle.core_terms.specs.Trees.{Pt, pattern, Pf, any, binds, is_number, is_text, is_bare, is_holding, has_fields}
-use Rattle.core_terms.specs.Trees.{annotated, Pfs, no_pat_fields, pat_field, Ex, node, Fo, bound, top, foreign, basis}
-use Rattle.core_terms.specs.Trees.{fold_over, number, text, built, fn, fn_con, fn_guard, call, let_in, case_of}
-use Rattle.core_terms.specs.Trees.{ascribed, fields_of, select, concat, without, without_row, folder, element, literal}
-use Rattle.core_terms.specs.Trees.{sql, Its, no_items, with_term, with_con, with_guard, Nms, no_named, named, Los}
-use Rattle.core_terms.specs.Trees.{no_locals, local_val, local_rec, Brs, no_branches, branch, Fds, no_fields, field, El}
-use Rattle.core_terms.specs.Trees.{tagged, Ats, no_attributes, attribute, Xs, no_nodes, a_node, Exs, no_exps, an_exp}
-use Rattle.core_terms.specs.Trees.{De, val, vals, con_is, datatype, thing}
+use Rattle.core_terms.specs.Trees.{Pt, pattern, Pf, any, binds, is_number, is_text, is_bare, is_holding, has_fields, annotated, Pfs, no_pat_fields, pat_field, Ex, node, Fo, bound, top, foreign, basis, fold_over, number, text, built, fn, fn_con, fn_guard, call, let_in, case_of, ascribed, fields_of, select, concat, without, without_row, folder, element, literal, sql, Its, no_items, with_term, with_con, with_guard, Nms, no_named, named, Los, no_locals, local_val, local_rec, Brs, no_branches, branch, Fds, no_fields, field, El, tagged, Ats, no_attributes, attribute, Xs, no_nodes, a_node, Exs, no_exps, an_exp, De, val, vals, con_is, datatype, thing}
 
 -- a type where it was written
 abbrev pub if_written : Bool → Cn → Cn

@@ -1,13 +1,9 @@
 -- Types that rules speak of.
 -- The Ur/Web Manual, "The Ur Standard Library" and "The Ur/Web Standard Library".
 use Rattle.std.specs.Prelude.{ℕ, zero, suc, true, List, [], ◌∷◌}
-use Rattle.con_terms.specs.Trees.{Kd, types, units, row_of, to, Cn, var, basic, arrow, poly, record_of, app, lambda}
-use Rattle.con_terms.specs.Trees.{unit_con, name, row, cat, Prs, no_pairs, pair}
+use Rattle.con_terms.specs.Trees.{Kd, types, units, row_of, to, Cn, var, basic, arrow, poly, record_of, app, lambda, unit_con, name, row, cat, Prs, no_pairs, pair}
 use Rattle.con_terms.specs.Equal.{mapped}
-use Rattle.core_terms.specs.Names.{int_name, string_name, url_name, bool_name, option_name, transaction_name, xml_name}
-use Rattle.core_terms.specs.Names.{show_name, eq_name, ord_name, num_name, sql_table_name, sql_query_name, sql_exp_name}
-use Rattle.core_terms.specs.Names.{dml_name, sql_sequence_name, http_cookie_name, sql_injectable_name, html_context}
-use Rattle.core_terms.specs.Names.{body_context, table_context, tr_context, value_name, secure_name}
+use Rattle.core_terms.specs.Names.{int_name, string_name, url_name, bool_name, option_name, transaction_name, xml_name, show_name, eq_name, ord_name, num_name, sql_table_name, sql_query_name, sql_exp_name, dml_name, sql_sequence_name, http_cookie_name, sql_injectable_name, html_context, body_context, table_context, tr_context, value_name, secure_name}
 
 abbrev pub int_type : Cn
 int_type = basic int_name

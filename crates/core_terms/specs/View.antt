@@ -4,15 +4,7 @@ use Rattle.con_terms.specs.Trees.{Kd, Cn}
 use Rattle.con_terms.specs.View.{kind_tree, con_tree, pairs_tree}
 use Rattle.con_terms.specs.declared.place.Place.{Place}
 use Rattle.con_terms.specs.declared.con.Con.{Con}
-use Rattle.core_terms.specs.Trees.{Pt, pattern, Pf, any, binds, is_number, is_text, is_bare, is_holding, has_fields}
-use Rattle.core_terms.specs.Trees.{annotated, Pfs, no_pat_fields, pat_field, Ex, node, Fo, bound, top, foreign, basis}
-use Rattle.core_terms.specs.Trees.{fold_over, number, text, built, fn, fn_con, fn_guard, call, let_in, case_of}
-use Rattle.core_terms.specs.Trees.{ascribed, fields_of, select, concat, without, without_row, folder, element, literal}
-use Rattle.core_terms.specs.Trees.{sql, Sk, blank, Its, no_items, with_term, with_con, with_guard, Nms, no_named, named}
-use Rattle.core_terms.specs.Trees.{Los, no_locals, local_val, local_rec, Brs, no_branches, branch, Fds, no_fields}
-use Rattle.core_terms.specs.Trees.{field, El, tagged, Ats, no_attributes, attribute, Xs, no_nodes, a_node, Exs, no_exps}
-use Rattle.core_terms.specs.Trees.{an_exp, It, a_term, a_con, a_guard, Lo, a_val, a_rec, Cd, Dt, Th, a_table}
-use Rattle.core_terms.specs.Trees.{a_sequence, a_cookie, a_given, De, val, vals, con_is, datatype, thing, Ru, Pg}
+use Rattle.core_terms.specs.Trees.{Pt, pattern, Pf, any, binds, is_number, is_text, is_bare, is_holding, has_fields, annotated, Pfs, no_pat_fields, pat_field, Ex, node, Fo, bound, top, foreign, basis, fold_over, number, text, built, fn, fn_con, fn_guard, call, let_in, case_of, ascribed, fields_of, select, concat, without, without_row, folder, element, literal, sql, Sk, blank, Its, no_items, with_term, with_con, with_guard, Nms, no_named, named, Los, no_locals, local_val, local_rec, Brs, no_branches, branch, Fds, no_fields, field, El, tagged, Ats, no_attributes, attribute, Xs, no_nodes, a_node, Exs, no_exps, an_exp, It, a_term, a_con, a_guard, Lo, a_val, a_rec, Cd, Dt, Th, a_table, a_sequence, a_cookie, a_given, De, val, vals, con_is, datatype, thing, Ru, Pg}
 use Rattle.xml_trees.specs.declared.source_name.AttrName.{AttrName}
 use Rattle.core_terms.specs.declared.pat.Pat.{Pat}
 use Rattle.core_terms.specs.declared.pat.PatForm.{PatForm}
@@ -32,12 +24,8 @@ use Rattle.core_terms.specs.declared.exp.Locals.{Locals}
 use Rattle.core_terms.specs.declared.exp.Named.{Named}
 use Rattle.core_terms.specs.declared.exp.NamedList.{NamedList}
 use Rattle.core_terms.specs.declared.exp.Attributes.{Attributes}
-use Rattle.core_terms.specs.declared.exp.Form.TheOpen.{Form-F, Item-F, Local-F, Attribute-F, Attributes-F, Branch-F}
-use Rattle.core_terms.specs.declared.exp.Form.TheOpen.{Branches-F, Element-F, Exp-F, Exps-F, Field-F, Fields-F, Items-F}
-use Rattle.core_terms.specs.declared.exp.Form.TheOpen.{Literal-F, Locals-F, Named-F, NamedList-F, Node-F, Nodes-F}
-use Rattle.core_terms.specs.declared.exp.Form.TheFolds.{fold-Form, fold-Attributes, fold-Branches, fold-Exp, fold-Exps}
-use Rattle.core_terms.specs.declared.exp.Form.TheFolds.{fold-Fields, fold-Items, fold-Locals, fold-Named}
-use Rattle.core_terms.specs.declared.exp.Form.TheFolds.{fold-NamedList, fold-Nodes}
+use Rattle.core_terms.specs.declared.exp.Form.TheOpen.{Form-F, Item-F, Local-F, Attribute-F, Attributes-F, Branch-F, Branches-F, Element-F, Exp-F, Exps-F, Field-F, Fields-F, Items-F, Literal-F, Locals-F, Named-F, NamedList-F, Node-F, Nodes-F}
+use Rattle.core_terms.specs.declared.exp.Form.TheFolds.{fold-Form, fold-Attributes, fold-Branches, fold-Exp, fold-Exps, fold-Fields, fold-Items, fold-Locals, fold-Named, fold-NamedList, fold-Nodes}
 use Rattle.core_terms.specs.declared.sql.Skeleton.{Skeleton}
 use Rattle.core_terms.specs.declared.names.Symbols.{Symbols}
 use Rattle.core_terms.specs.declared.decl.Sort.{Sort}

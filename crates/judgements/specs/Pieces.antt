@@ -1,6 +1,5 @@
 -- How the field of a name is taken out of pieces, and a piece out of others, one piece after another.
-use Rattle.std.specs.Prelude.{Bool, true, false, ◌&&◌, List, [], ◌∷◌, ◌++◌, Option, Some, None, option_map}
-use Rattle.std.specs.Prelude.{if◌then◌else◌}
+use Rattle.std.specs.Prelude.{Bool, true, false, ◌&&◌, List, [], ◌∷◌, ◌++◌, Option, Some, None, option_map, if◌then◌else◌}
 use Rattle.con_terms.specs.Trees.{Kd, types, Cn}
 use Rattle.con_terms.specs.Same.{kd_eq}
 use Rattle.row_normal.specs.SameTree.{cn_eq}

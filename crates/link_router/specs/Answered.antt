@@ -1,6 +1,5 @@
 -- What is answered to a path.
-use Rattle.std.specs.Prelude.{◌≡◌, ℕ, ◌-◌, Bool, List, [], ◌∷◌, ◌++◌, length, Option, Some, None, slice_get, Result}
-use Rattle.std.specs.Prelude.{MatchResult, IfSome, ◌⊎◌}
+use Rattle.std.specs.Prelude.{◌≡◌, ℕ, ◌-◌, Bool, List, [], ◌∷◌, ◌++◌, length, Option, Some, None, slice_get, Result, MatchResult, IfSome, ◌⊎◌}
 use Rattle.table_rows.specs.Wires.{Wrs}
 use Rattle.table_rows.specs.Shapes.{Cases}
 use Rattle.link_router.specs.Reading.{bad, few, ReadsAll, StopsAll}
@@ -9,8 +8,7 @@ use Rattle.link_router.specs.Routed.{Astray, no_route, other_method, bad_piece, 
 use Rattle.link_router.specs.View.{call_view}
 use Rattle.link_router.specs.declared.call.Call.{Call}
 use Rattle.link_router.specs.declared.router.LinkFault.{LinkFault}
-use Rattle.link_router.specs.declared.router.LinkFault.TheVariants.{NoRoute, OtherMethod, BadPiece, TooFewPieces}
-use Rattle.link_router.specs.declared.router.LinkFault.TheVariants.{TooManyPieces, Memory}
+use Rattle.link_router.specs.declared.router.LinkFault.TheVariants.{NoRoute, OtherMethod, BadPiece, TooFewPieces, TooManyPieces, Memory}
 
 -- an entry is read by this method, and the pieces are those of its name and the rest
 pub record FitsEntry (post : Bool) (pieces : List (List ℕ)) (e : Ent) (rest : List (List ℕ)) : Type 0 where

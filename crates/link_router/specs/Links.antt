@@ -1,6 +1,5 @@
 -- The texts of links, and which call a path is.
-use Rattle.std.specs.Prelude.{◌≡◌, ℕ, Bool, List, [], ◌∷◌, ◌++◌, Option, Some, None, slice_get, codes, drop, map, take}
-use Rattle.std.specs.Prelude.{if◌then◌else◌, ◌==◌, bytes_eq, ◌+◌}
+use Rattle.std.specs.Prelude.{◌≡◌, ℕ, Bool, List, [], ◌∷◌, ◌++◌, Option, Some, None, slice_get, codes, drop, map, take, if◌then◌else◌, ◌==◌, bytes_eq, ◌+◌}
 use Rattle.percent_encoding.specs.Percent.{percent_decode}
 use Rattle.table_rows.specs.Wires.{Wrs}
 use Rattle.table_rows.specs.Shapes.{HaveShapes}

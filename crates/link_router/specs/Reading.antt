@@ -4,8 +4,7 @@ use Rattle.std.specs.Int.{w64}
 use Rattle.std.specs.List.{Contains}
 use Rattle.std.specs.Fmt.{signed_decimal}
 use Rattle.table_rows.specs.Wires.{Wr, int, words, unit, rec_of, bare, tagged, Wrs, no_wires, wire}
-use Rattle.table_rows.specs.Shapes.{Sh, an_int, a_text, a_unit, a_truth, a_record, a_data, parameter, Shs, no_shapes}
-use Rattle.table_rows.specs.Shapes.{shape, Pts, no_parts, part, Cases, at_arguments}
+use Rattle.table_rows.specs.Shapes.{Sh, an_int, a_text, a_unit, a_truth, a_record, a_data, parameter, Shs, no_shapes, shape, Pts, no_parts, part, Cases, at_arguments}
 
 -- a piece is the decimal form of a number of 64 bits
 pub record IsNumber (p : List ℕ) (z : ℤ) : Type 0 where

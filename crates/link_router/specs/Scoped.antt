@@ -2,8 +2,7 @@
 use Rattle.std.specs.Prelude.{ℕ, List, [], map, reverse}
 use Rattle.table_rows.specs.Wires.{wire_list}
 use Rattle.table_rows.specs.Shapes.{Sh, Shs, Pts, Cases, at_arguments, parts_at_arguments}
-use Rattle.table_rows.specs.View.{wire_tree, wires_tree, shapes_from, parts_from, shape_step, arguments_step, part_step}
-use Rattle.table_rows.specs.View.{parts_step, shape_tree}
+use Rattle.table_rows.specs.View.{wire_tree, wires_tree, shapes_from, parts_from, shape_step, arguments_step, part_step, parts_step, shape_tree}
 use Rattle.table_rows.specs.declared.shape.Shape.{Shape}
 use Rattle.table_rows.specs.declared.shape.Part.{Part}
 use Rattle.table_rows.specs.declared.shape.Shape.TheFolds.{fold-Part}

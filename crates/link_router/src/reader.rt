@@ -1,12 +1,10 @@
 //! Values that pieces are read as, from left to right, without recursion: what waits for a value stands on a stack.
 ghost use Rattle.std.specs.Prelude.{◌≡◌, ◌∷◌, [], ℕ, List, Some, IfOk, IfErr};
-ghost use Rattle.table_rows.specs.Shapes.{an_int, a_text, a_truth, a_record, a_data, parameter, Cases};
-ghost use Rattle.table_rows.specs.Shapes.{all_at_arguments, parts_at_arguments};
+ghost use Rattle.table_rows.specs.Shapes.{an_int, a_text, a_truth, a_record, a_data, parameter, Cases, all_at_arguments, parts_at_arguments};
 ghost use Rattle.table_rows.specs.View.{wire_tree, wires_tree, shape_tree, arguments_tree, parts_tree, datatypes_view};
 ghost use Rattle.link_router.specs.Reading.{Reads, ReadsAll};
 ghost use Rattle.link_router.specs.Amid.{LeadsTo, wants, has};
-ghost use Rattle.link_router.specs.Scoped.{closed_tree, scope_shapes, frame_view, stack_view, amid, moved_to, EndsSo};
-ghost use Rattle.link_router.specs.Scoped.{StopsSo, StopsAllSo};
+ghost use Rattle.link_router.specs.Scoped.{closed_tree, scope_shapes, frame_view, stack_view, amid, moved_to, EndsSo, StopsSo, StopsAllSo};
 
 use crate::frames::{Frame, Moved, Stack, Step, Stopped};
 use crate::leaves::{case_named, number, truth, words};
@@ -16,8 +14,8 @@ use request_region::Region;
 use std::alloc::{AllocError, Global};
 use table_rows::{Arguments, Datatypes, Parts, Shape, Text, Wire, Wires};
 
-/// The most steps in which one value is read. That a value has so many parts without a piece of their own counts as
-/// want of memory.
+/// The most steps in which one value is read. That a value has so many parts without a piece of their own counts as want of
+/// memory.
 const MOST_STEPS: u32 = 1_000_000;
 
 /// Reads a number.
@@ -91,9 +89,7 @@ fn begin_record<'r>(
     stack: &mut Stack<'r>,
 ) -> Result<Step<'r>, AllocError>
     ensures { (D : List Cases) (ps : List (List ℕ)) → IfOk result (λ step.
-        LeadsTo D
-        (wants (stack_view stack.old) (a_record (parts_at_arguments (scope_shapes scope.now) (parts_tree parts.now))) ps)
-        (amid step (stack_view stack.new) ps)) }
+        LeadsTo D (wants (stack_view stack.old) (a_record (parts_at_arguments (scope_shapes scope.now) (parts_tree parts.now))) ps) (amid step (stack_view stack.new) ps)) }
 {
     match parts.items.as_slice().split_first() {
         None => Ok(Step::Has(Wire::Rec(Wires::new(alloc)))),
@@ -117,12 +113,10 @@ fn begin_data<'r>(
     stack: &mut Stack<'r>,
 ) -> Result<Step<'r>, Stopped>
     ensures ok { IfOk result (λ step. LeadsTo (datatypes_view datatypes.now)
-        (wants (stack_view stack.old)
-        (a_data place (all_at_arguments (scope_shapes scope.now) (arguments_tree arguments.now))) pieces.old)
+        (wants (stack_view stack.old) (a_data place (all_at_arguments (scope_shapes scope.now) (arguments_tree arguments.now))) pieces.old)
         (amid step (stack_view stack.new) pieces.new)) }
     ensures err { IfErr result (λ stopped. StopsSo (datatypes_view datatypes.now)
-        (a_data place (all_at_arguments (scope_shapes scope.now) (arguments_tree arguments.now)))
-        pieces.old pieces.new stopped) }
+        (a_data place (all_at_arguments (scope_shapes scope.now) (arguments_tree arguments.now))) pieces.old pieces.new stopped) }
 {
     let Some(piece) = pieces.first() else {
         return Err(Stopped::Few);
@@ -155,10 +149,8 @@ fn begin<'r>(
     stack: &mut Stack<'r>,
 ) -> Result<Step<'r>, Stopped>
     ensures ok { IfOk result (λ step. LeadsTo (datatypes_view datatypes.now)
-        (wants (stack_view stack.old) (closed_tree wanted.entry) pieces.old)
-        (amid step (stack_view stack.new) pieces.new)) }
-    ensures err { IfErr result (λ stopped. StopsSo (datatypes_view datatypes.now) (closed_tree wanted.entry)
-        pieces.old pieces.new stopped) }
+        (wants (stack_view stack.old) (closed_tree wanted.entry) pieces.old) (amid step (stack_view stack.new) pieces.new)) }
+    ensures err { IfErr result (λ stopped. StopsSo (datatypes_view datatypes.now) (closed_tree wanted.entry) pieces.old pieces.new stopped) }
 {
     let Closed { shape, scope } = wanted;
     match shape {
@@ -197,8 +189,7 @@ fn handed_up<'r>(
     stack: &mut Stack<'r>,
 ) -> Result<Step<'r>, AllocError>
     ensures { (D : List Cases) (ps : List (List ℕ)) → IfOk result (λ step.
-        LeadsTo D (has (frame_view frame.entry ∷ stack_view stack.old) (wire_tree wire) ps)
-        (amid step (stack_view stack.new) ps)) }
+        LeadsTo D (has (frame_view frame.entry ∷ stack_view stack.old) (wire_tree wire) ps) (amid step (stack_view stack.new) ps)) }
 {
     match frame {
         Frame::Held(name) => {
@@ -230,8 +221,7 @@ fn moved<'r>(
 ) -> Result<Moved<'r>, Stopped>
     ensures ok { IfOk result (λ next. LeadsTo (datatypes_view datatypes.now)
         (amid step.entry (stack_view stack.old) pieces.old) (moved_to next (stack_view stack.new) pieces.new)) }
-    ensures err { IfErr result (λ stopped. EndsSo (datatypes_view datatypes.now)
-        (amid step.entry (stack_view stack.old) pieces.old) pieces.new stopped) }
+    ensures err { IfErr result (λ stopped. EndsSo (datatypes_view datatypes.now) (amid step.entry (stack_view stack.old) pieces.old) pieces.new stopped) }
 {
     match step {
         Step::Wants(wanted) => match begin(alloc, region, datatypes, wanted, pieces, stack) {
@@ -256,10 +246,8 @@ fn read_value<'r>(
     shape: &'r Shape,
     pieces: &mut Pieces,
 ) -> Result<Wire, Stopped>
-    ensures ok { IfOk result (λ wire. Reads (datatypes_view datatypes.now) (shape_tree shape.now)
-        pieces.old (wire_tree wire) pieces.new) }
-    ensures err { IfErr result (λ stopped. StopsSo (datatypes_view datatypes.now) (shape_tree shape.now)
-        pieces.old pieces.new stopped) }
+    ensures ok { IfOk result (λ wire. Reads (datatypes_view datatypes.now) (shape_tree shape.now) pieces.old (wire_tree wire) pieces.new) }
+    ensures err { IfErr result (λ stopped. StopsSo (datatypes_view datatypes.now) (shape_tree shape.now) pieces.old pieces.new stopped) }
 {
     let mut stack = Stack::new(alloc);
     let scope = region.put_slice(&[])?;
@@ -281,10 +269,8 @@ pub fn read_arguments(
     arguments: &Arguments,
     pieces: &mut Pieces,
 ) -> Result<Wires, Stopped>
-    ensures ok { IfOk result (λ wires. ReadsAll (datatypes_view datatypes.now) (arguments_tree arguments.now)
-        pieces.old (wires_tree wires) pieces.new) }
-    ensures err { IfErr result (λ stopped. StopsAllSo (datatypes_view datatypes.now) (arguments_tree arguments.now)
-        pieces.old pieces.new stopped) }
+    ensures ok { IfOk result (λ wires. ReadsAll (datatypes_view datatypes.now) (arguments_tree arguments.now) pieces.old (wires_tree wires) pieces.new) }
+    ensures err { IfErr result (λ stopped. StopsAllSo (datatypes_view datatypes.now) (arguments_tree arguments.now) pieces.old pieces.new stopped) }
 {
     let region = Region::new(alloc);
     let mut wires = Wires::new(alloc);

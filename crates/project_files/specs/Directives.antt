@@ -1,6 +1,5 @@
 -- What a directive of a project file says.
-use Rattle.std.specs.Prelude.{ℕ, Bool, true, false, ◌==◌, ◌&&◌, ◌||◌, not, nat_lt, List, [], ◌∷◌, length, drop, Option}
-use Rattle.std.specs.Prelude.{Some, None, codes, if◌then◌else◌}
+use Rattle.std.specs.Prelude.{ℕ, Bool, true, false, ◌==◌, ◌&&◌, ◌||◌, not, nat_lt, List, [], ◌∷◌, length, drop, Option, Some, None, codes, if◌then◌else◌}
 use Rattle.std.specs.Char.{is_ascii_lowercase, is_ascii_uppercase, is_ascii_alphanumeric, to_ascii_uppercase}
 use Rattle.std.specs.List.{starts_with, list_all, position_or_len, before_first, after_first}
 use Rattle.project_files.specs.Lines.{Line}

@@ -1,10 +1,8 @@
 -- What a project file says, and at which line it is refused.
-use Rattle.std.specs.Prelude.{◌≡◌, ℕ, ◌+◌, Bool, true, false, ◌==◌, ◌&&◌, not, nat_lt, List, [], ◌∷◌, ◌++◌, length}
-use Rattle.std.specs.Prelude.{Option, Some, None, IsUtf8, bytes_eq, if◌then◌else◌}
+use Rattle.std.specs.Prelude.{◌≡◌, ℕ, ◌+◌, Bool, true, false, ◌==◌, ◌&&◌, not, nat_lt, List, [], ◌∷◌, ◌++◌, length, Option, Some, None, IsUtf8, bytes_eq, if◌then◌else◌}
 use Rattle.std.specs.List.{list_any}
 use Rattle.project_files.specs.Lines.{Line, HasLines}
-use Rattle.project_files.specs.Directives.{Directive, a_rule, a_safe_get, a_foreign, an_effect, a_setting, directive}
-use Rattle.project_files.specs.Directives.{is_module_line, module_name}
+use Rattle.project_files.specs.Directives.{Directive, a_rule, a_safe_get, a_foreign, an_effect, a_setting, directive, is_module_line, module_name}
 
 -- What lines have said so far. Each list is in the order of the lines; modules of foreign effects and effects stand
 -- once.

@@ -1,8 +1,7 @@
 //! Reading a project file.
 ghost use Rattle.std.specs.Prelude.{◌≡◌, Some, IfOk, IfErr, OnOk, IsTrue, bytes_eq};
 ghost use Rattle.project_files.specs.Directives.{module_name, a_rule, a_safe_get, a_foreign, an_effect};
-ghost use Rattle.project_files.specs.Projects.{nothing_said, IsProject, IsWhole, is_among, is_effect_among};
-ghost use Rattle.project_files.specs.Projects.{with_directive, with_module, with_line, next, told};
+ghost use Rattle.project_files.specs.Projects.{nothing_said, IsProject, IsWhole, is_among, is_effect_among, with_directive, with_module, with_line, next, told};
 ghost use Rattle.project_files.specs.View.{said_by, effects_of, directive_of};
 ghost use Rattle.project_files.specs.Refused.{IsRefused};
 
@@ -132,8 +131,7 @@ impl Project {
 
     /// Adds a function that may be called without a check.
     fn add_safe_get(&mut self, alloc: Global, owner: &str, name: &str) -> Result<(), AllocError>
-        ensures { OnOk result (Some (said_by self.new)
-            ≡ with_directive (said_by self.old) (a_safe_get owner.now name.now)) }
+        ensures { OnOk result (Some (said_by self.new) ≡ with_directive (said_by self.old) (a_safe_get owner.now name.now)) }
     {
         let owner = Text::of(alloc, owner)?;
         let name = Text::of(alloc, name)?;
@@ -153,8 +151,7 @@ impl Project {
 
     /// Adds an effect, where its module stands before it. The answer is whether it does.
     fn add_effect(&mut self, alloc: Global, owner: &str, name: &str) -> Result<bool, AllocError>
-        ensures { IfOk result (λ taken. told taken (said_by self.new)
-            ≡ with_directive (said_by self.old) (an_effect owner.now name.now)) }
+        ensures { IfOk result (λ taken. told taken (said_by self.new) ≡ with_directive (said_by self.old) (an_effect owner.now name.now)) }
     {
         if !is_among(owner.as_bytes(), self.foreign.as_slice()) {
             return Ok(false);
@@ -173,8 +170,7 @@ impl Project {
         alloc: Global,
         directive: Directive<'_>,
     ) -> Result<bool, AllocError>
-        ensures { IfOk result (λ taken. told taken (said_by self.new)
-            ≡ with_directive (said_by self.old) (directive_of directive.entry)) }
+        ensures { IfOk result (λ taken. told taken (said_by self.new) ≡ with_directive (said_by self.old) (directive_of directive.entry)) }
     {
         match directive {
             Directive::Rule { allow, pattern } => {

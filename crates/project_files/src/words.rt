@@ -1,8 +1,7 @@
 //! Names and words in the lines of a project file.
 ghost use Rattle.std.specs.Prelude.{◌≡◌, ◌<◌};
 ghost use Rattle.std.specs.Option.{option_map};
-ghost use Rattle.project_files.specs.Directives.{behind, parted, is_word_byte, is_name_byte, is_module_name};
-ghost use Rattle.project_files.specs.Directives.{is_value_name, is_module_line, is_setting, has_word, at_word_end};
+ghost use Rattle.project_files.specs.Directives.{behind, parted, is_word_byte, is_name_byte, is_module_name, is_value_name, is_module_line, is_setting, has_word, at_word_end};
 ghost use Rattle.std.specs.List.{list_all};
 
 /// Whether a byte goes on the name of a module's line: a letter, a digit or `_`.

@@ -1,6 +1,5 @@
 -- The pieces of a link or a cookie that a value is written as.
-use Rattle.std.specs.Prelude.{ℕ, ◌/◌, ◌%◌, Bool, true, ◌||◌, ◌==◌, List, [], ◌∷◌, ◌++◌, nat_lt, not, if◌then◌else◌}
-use Rattle.std.specs.Prelude.{◌&&◌}
+use Rattle.std.specs.Prelude.{ℕ, ◌/◌, ◌%◌, Bool, true, ◌||◌, ◌==◌, List, [], ◌∷◌, ◌++◌, nat_lt, not, if◌then◌else◌, ◌&&◌}
 use Rattle.std.specs.Fmt.{signed_decimal, digit_glyph}
 use Rattle.table_rows.specs.Wires.{Wr, int, words, unit, rec_of, bare, tagged, Wrs, no_wires, wire}
 

@@ -1,8 +1,7 @@
 -- The trees that values of the program are.
 use Rattle.std.specs.Prelude.{ℕ, List, [], ◌∷◌, Option, Some, None, map}
 use Rattle.table_rows.specs.Wires.{Wr, int, words, unit, rec_of, bare, tagged, Wrs, no_wires, wire}
-use Rattle.table_rows.specs.Shapes.{Sh, an_int, a_text, a_unit, a_truth, a_record, a_data, parameter, Shs, no_shapes}
-use Rattle.table_rows.specs.Shapes.{shape, Pts, no_parts, part, Cases}
+use Rattle.table_rows.specs.Shapes.{Sh, an_int, a_text, a_unit, a_truth, a_record, a_data, parameter, Shs, no_shapes, shape, Pts, no_parts, part, Cases}
 use Rattle.table_rows.specs.declared.wire.Wire.{Wire}
 use Rattle.table_rows.specs.declared.wire.Wires.{Wires}
 use Rattle.table_rows.specs.declared.wire.Wire.TheOpen.{Wire-F, Wires-F}

@@ -13,8 +13,7 @@ use Rattle.core_typing.specs.Tells.{Sub}
 use Rattle.core_typing.specs.Faults.{Fault, Earlier}
 use Rattle.core_typing.specs.FaultLaws.{CoverIsDecided, LinksAreDecided}
 use Rattle.kind_rules.specs.Kinding.{judged_at}
-use Rattle.told_faults.specs.Computed.{sooner, first, flawed, wants, on_type, function_parts, poly_parts, guarded_parts}
-use Rattle.told_faults.specs.Computed.{record_row}
+use Rattle.told_faults.specs.Computed.{sooner, first, flawed, wants, on_type, function_parts, poly_parts, guarded_parts, record_row}
 use Rattle.told_faults.specs.Told.{TypeIs, ToldIs, Picks, Nodes, Least, OfType}
 use Rattle.told_faults.specs.Heads.{Wanted, Kindly, Function, Poly, Guarded, Rec}
 

@@ -1,6 +1,5 @@
 //! The laws of told faults.
-ghost use Rattle.told_faults.specs.Laws.{ComparisonTells, HeadsAre, KindingTells, Settles, SilentIsFound};
-ghost use Rattle.told_faults.specs.Laws.{SoonerIsEarlier, TwoFaults, TwoSets, TypesTell};
+ghost use Rattle.told_faults.specs.Laws.{ComparisonTells, HeadsAre, KindingTells, Settles, SilentIsFound, SoonerIsEarlier, TwoFaults, TwoSets, TypesTell};
 
 /// The computed order is that of places.
 pub fn the_computed_order_is_that_of_places()

@@ -7,9 +7,7 @@ use Rattle.core_typing.specs.Cover as cover
 use Rattle.core_typing.specs.Cover.{Shp, Shf, no_shape_fields, shape_field}
 use Rattle.core_typing.specs.Faults as told
 use Rattle.type_faults.specs.declared.fault.Fault.{Fault}
-use Rattle.type_faults.specs.declared.fault.Fault.TheVariants.{Unbound, KindMismatch, Mismatch, NotDisjoint}
-use Rattle.type_faults.specs.declared.fault.Fault.TheVariants.{Inexhaustive, Redeclared, LinkNotCall, NotSerialisable}
-use Rattle.type_faults.specs.declared.fault.Fault.TheVariants.{TooLarge, NotBuilt}
+use Rattle.type_faults.specs.declared.fault.Fault.TheVariants.{Unbound, KindMismatch, Mismatch, NotDisjoint, Inexhaustive, Redeclared, LinkNotCall, NotSerialisable, TooLarge, NotBuilt}
 use Rattle.type_faults.specs.declared.fault.Name.{Name}
 use Rattle.type_faults.specs.declared.fault.Name.TheVariants as name
 use Rattle.type_faults.specs.declared.fault.Twice.{Twice}

@@ -1,9 +1,7 @@
 -- Unknowns of a call, and what was found for them.
 -- The Ur/Web Manual, "Type Inference".
-use Rattle.std.specs.Prelude.{◌≡◌, ℕ, zero, suc, ◌+◌, ◌-◌, nat_lt, Bool, true, false, ◌&&◌, ◌||◌, not, if◌then◌else◌}
-use Rattle.std.specs.Prelude.{◌==◌, Option, Some, None}
-use Rattle.con_terms.specs.Trees.{Kd, Cn, var, basic, arrow, poly, guarded, record_of, app, lambda, unit_con, name, row}
-use Rattle.con_terms.specs.Trees.{cat, map_of, tuple, proj, Cns, no_cons, con, Prs, no_pairs, pair}
+use Rattle.std.specs.Prelude.{◌≡◌, ℕ, zero, suc, ◌+◌, ◌-◌, nat_lt, Bool, true, false, ◌&&◌, ◌||◌, not, if◌then◌else◌, ◌==◌, Option, Some, None}
+use Rattle.con_terms.specs.Trees.{Kd, Cn, var, basic, arrow, poly, guarded, record_of, app, lambda, unit_con, name, row, cat, map_of, tuple, proj, Cns, no_cons, con, Prs, no_pairs, pair}
 use Rattle.con_terms.specs.Equal.{Equal}
 use Rattle.con_terms.specs.Substitution.{replaced, shift}
 

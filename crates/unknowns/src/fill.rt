@@ -3,8 +3,7 @@
 ghost use Rattle.std.specs.Prelude.{◌≡◌, ◌+◌, ◌-◌, ◌<◌, ◌≤◌, ◌^◌, IfOk};
 ghost use Rattle.con_terms.specs.Substitution.{shift as shifted};
 ghost use Rattle.con_terms.specs.View.{con_tree};
-ghost use Rattle.unknowns.specs.Unknowns.{answer_of, count_of, fill, filled as filled_in, filled_answer, tell};
-ghost use Rattle.unknowns.specs.Unknowns.{told as told_outside, told_number};
+ghost use Rattle.unknowns.specs.Unknowns.{answer_of, count_of, fill, filled as filled_in, filled_answer, tell, told as told_outside, told_number};
 ghost use Rattle.unknowns.specs.Slots.{slots_tree};
 ghost use Rattle.unknowns.specs.View.{IsTold, found_tree};
 
@@ -104,8 +103,7 @@ fn inside(alloc: Global, found: &Found, depth: u32, number: u32) -> Result<Con, 
     requires outside { depth ≤ number }
     ensures { IfOk result
         (λ c. con_tree c
-        ≡ filled_answer (answer_of (found_tree found.now) (number - depth))
-        (count_of (found_tree found.now) + depth) number) }
+        ≡ filled_answer (answer_of (found_tree found.now) (number - depth)) (count_of (found_tree found.now) + depth) number) }
 {
     match found.answer(number - depth) {
         None => Ok(Con::Var(number)),

@@ -1,8 +1,7 @@
 -- The grammar of a page's text: which bytes stand for which trees.
 use Rattle.std.specs.Prelude.{◌≡◌, ◌≢◌, ℕ, true, false, List, [], ◌∷◌, ◌++◌, codes}
 use Rattle.xml_trees.specs.Trees.{Trees}
-use Rattle.xml_trees.specs.Markup.{Attribute, Markup, Empty, Characters, Tagged, IsName, is_void, BeginsNoText}
-use Rattle.xml_trees.specs.Markup.{IsNormal}
+use Rattle.xml_trees.specs.Markup.{Attribute, Markup, Empty, Characters, Tagged, IsName, is_void, BeginsNoText, IsNormal}
 use Rattle.xml_trees.specs.Written.{written}
 
 -- A byte of a text: an escape for `&`, `<` and `>`, and any other byte as it is.

@@ -1,9 +1,7 @@
 -- The names that tags are written with.
 use Rattle.std.specs.Prelude.{ℕ, List, Bool, true, false, codes}
 use Rattle.xml_trees.specs.declared.name.Name.{Name}
-use Rattle.xml_trees.specs.declared.name.Name.TheVariants.{Head, Body, Title, P, Div, Span, B, I, Em, Strong, H1, H2}
-use Rattle.xml_trees.specs.declared.name.Name.TheVariants.{H3, H4, Ul, Ol, Li, Code, Blockquote, Br, Hr, A, Img, Table}
-use Rattle.xml_trees.specs.declared.name.Name.TheVariants.{Tr, Th, Td, Form, Input}
+use Rattle.xml_trees.specs.declared.name.Name.TheVariants.{Head, Body, Title, P, Div, Span, B, I, Em, Strong, H1, H2, H3, H4, Ul, Ol, Li, Code, Blockquote, Br, Hr, A, Img, Table, Tr, Th, Td, Form, Input}
 
 -- the letters of a name
 abbrev pub name_bytes : Name → List ℕ

@@ -6,10 +6,7 @@ use Rattle.xml_trees.specs.declared.tag.Tag.TheVariants as page
 use Rattle.xml_trees.specs.declared.attrs.Attr.{Attr}
 use Rattle.xml_trees.specs.declared.attrs.Attr.TheVariants as given
 use Rattle.xml_trees.specs.declared.source_name.TagName.{TagName}
-use Rattle.xml_trees.specs.declared.source_name.TagName.TheVariants.{Head, Body, Title, P, Div, Span, B, I, Em, Strong}
-use Rattle.xml_trees.specs.declared.source_name.TagName.TheVariants.{H1, H2, H3, H4, Ul, Ol, Li, Code, Blockquote, Br}
-use Rattle.xml_trees.specs.declared.source_name.TagName.TheVariants.{Hr, A, Img, Table, Tr, Th, Td, Form, Textbox}
-use Rattle.xml_trees.specs.declared.source_name.TagName.TheVariants.{Password, Hidden, Checkbox, Submit}
+use Rattle.xml_trees.specs.declared.source_name.TagName.TheVariants.{Head, Body, Title, P, Div, Span, B, I, Em, Strong, H1, H2, H3, H4, Ul, Ol, Li, Code, Blockquote, Br, Hr, A, Img, Table, Tr, Th, Td, Form, Textbox, Password, Hidden, Checkbox, Submit}
 use Rattle.xml_trees.specs.declared.source_name.AttrName.{AttrName}
 use Rattle.xml_trees.specs.declared.source_name.AttrName.TheVariants as attr
 use Rattle.xml_trees.specs.Names.{name_bytes}

@@ -3,9 +3,7 @@ use Rattle.std.specs.Prelude.{Bool, true, false}
 use Rattle.xml_trees.specs.declared.name.Name.{Name}
 use Rattle.xml_trees.specs.declared.name.Name.TheVariants as name
 use Rattle.xml_trees.specs.declared.tag.Tag.{Tag}
-use Rattle.xml_trees.specs.declared.tag.Tag.TheVariants.{Head, Body, Title, P, Div, Span, B, I, Em, Strong, H1, H2, H3}
-use Rattle.xml_trees.specs.declared.tag.Tag.TheVariants.{H4, Ul, Ol, Li, Code, Blockquote, Br, Hr, A, Img, Table, Tr}
-use Rattle.xml_trees.specs.declared.tag.Tag.TheVariants.{Th, Td, Form, Textbox, Password, Hidden, Checkbox, Submit}
+use Rattle.xml_trees.specs.declared.tag.Tag.TheVariants.{Head, Body, Title, P, Div, Span, B, I, Em, Strong, H1, H2, H3, H4, Ul, Ol, Li, Code, Blockquote, Br, Hr, A, Img, Table, Tr, Th, Td, Form, Textbox, Password, Hidden, Checkbox, Submit}
 
 -- the name that a tag is written with: every kind of input is an `input`
 abbrev pub name_of : Tag → Name

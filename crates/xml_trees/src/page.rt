@@ -83,8 +83,7 @@ fn push_copy(alloc: Global, pieces: &mut Vec<Piece>, piece: &Piece) -> Result<()
 }
 
 impl Page {
-    ghost use Rattle.xml_trees.specs.Trees.{Whole, Within, Nothing, Words, built, built_and, ended, IsWhole};
-    ghost use Rattle.xml_trees.specs.Trees.{IsUnfinished, trees_of, AreNested};
+    ghost use Rattle.xml_trees.specs.Trees.{Whole, Within, Nothing, Words, built, built_and, ended, IsWhole, IsUnfinished, trees_of, AreNested};
 
     /// The empty page. It allocates nothing.
     pub fn new(alloc: Global) -> Page

@@ -1,7 +1,6 @@
 //! The names that sources give to tags and attributes.
 ghost use Rattle.std.specs.Prelude.{◌≡◌, ◌≢◌, IfSome, IfNone};
-ghost use Rattle.xml_trees.specs.SourceNames.{tag_text, page_tag, simple_tag, tag_named, attribute_text};
-ghost use Rattle.xml_trees.specs.SourceNames.{attribute_name, text_attribute, number_attribute};
+ghost use Rattle.xml_trees.specs.SourceNames.{tag_text, page_tag, simple_tag, tag_named, attribute_text, attribute_name, text_attribute, number_attribute};
 
 use crate::{Attr, Tag};
 use table_rows::Text;
