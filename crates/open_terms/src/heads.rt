@@ -15,18 +15,19 @@ use type_faults::fault::Fault;
 /// What a call begins with, and its type.
 #[derive(Drop)]
 pub struct Head {
-    pub exp: Exp,
+    pub exp: Box<Exp>,
     pub con: Con,
     pub sigil: Sigil,
 }
 
 /// A term of the source.
-pub fn node(place: Place, form: Form) -> Exp {
-    Exp {
+pub fn node(alloc: Global, place: Place, form: Form) -> Result<Box<Exp>, AllocError> {
+    let exp = Exp {
         place,
         added: false,
         form,
-    }
+    };
+    on_heap(alloc, exp)
 }
 
 /// What stands before a name.
@@ -69,7 +70,12 @@ fn is_unbuilt(name: ValueName) -> bool {
 }
 
 /// A value with its type. That of a function in its own group may be open.
-fn of_value(place: Place, known: KnownValue, sigil: Sigil) -> Result<Head, ElabFault> {
+fn of_value(
+    alloc: Global,
+    place: Place,
+    known: KnownValue,
+    sigil: Sigil,
+) -> Result<Head, ElabFault> {
     let KnownValue { name, con } = known;
     match con {
         Con::UnitCon => return Err(ElabFault::Unsolved(place)),
@@ -81,7 +87,7 @@ fn of_value(place: Place, known: KnownValue, sigil: Sigil) -> Result<Head, ElabF
     match form_of(name) {
         None => Err(ElabFault::Unsolved(place)),
         Some(form) => Ok(Head {
-            exp: node(place, form),
+            exp: node(alloc, place, form)?,
             con,
             sigil,
         }),
@@ -89,12 +95,20 @@ fn of_value(place: Place, known: KnownValue, sigil: Sigil) -> Result<Head, ElabF
 }
 
 /// A constructor of a datatype with its type.
-fn of_builder(place: Place, known: KnownBuilder, sigil: Sigil) -> Head {
-    Head {
-        exp: node(place, Form::Build(known.datatype, known.index)),
-        con: known.con,
-        sigil,
-    }
+fn of_builder(
+    alloc: Global,
+    place: Place,
+    known: KnownBuilder,
+    sigil: Sigil,
+) -> Result<Head, AllocError> {
+    let KnownBuilder {
+        datatype,
+        index,
+        con,
+        ..
+    } = known;
+    let exp = node(alloc, place, Form::Build(datatype, index))?;
+    Ok(Head { exp, con, sigil })
 }
 
 /// The kind of the values of the rows that functions of a kind take; none where they take no rows.
@@ -139,7 +153,7 @@ fn of_fold(
             let kind = fold_kind(alloc, env.place(*at), &side.kind)?;
             let con = env.scope.fold(alloc, &kind)?;
             Ok(Head {
-                exp: node(place, Form::Fold(kind)),
+                exp: node(alloc, place, Form::Fold(kind))?,
                 con,
                 sigil,
             })
@@ -164,7 +178,7 @@ fn of_path(
             if known.name == ValueName::Fold {
                 return of_fold(alloc, env, place, first, sigil, room);
             }
-            of_value(place, known, sigil)
+            of_value(alloc, place, known, sigil)
         }
     }
 }
@@ -177,7 +191,7 @@ pub fn of_basis(
     name: BasisName,
 ) -> Result<Head, ElabFault> {
     let known = env.scope.basis(alloc, name)?;
-    of_value(place, known, Sigil::Plain)
+    of_value(alloc, place, known, Sigil::Plain)
 }
 
 /// The value of the basis that sugar stands for.
@@ -192,7 +206,7 @@ fn of_sugar(alloc: Global, env: &Env, place: Place, basis: Basis) -> Result<Head
         Basis::Le => BasisName::Le,
         Basis::Builder(b) => {
             let known = env.scope.basis_builder(alloc, b)?;
-            return Ok(of_builder(place, known, Sigil::Plain));
+            return Ok(of_builder(alloc, place, known, Sigil::Plain)?);
         }
     };
     of_basis(alloc, env, place, name)
@@ -228,14 +242,9 @@ pub fn head_of_call(
         }
         plain_tree::Form::Builder(sigil, path) => match env.scope.builder(alloc, path)? {
             None => Err(unbound(alloc, place, path)?),
-            Some(known) => Ok(Some(of_builder(place, known, sigil_of(*sigil)))),
+            Some(known) => Ok(Some(of_builder(alloc, place, known, sigil_of(*sigil))?)),
         },
         plain_tree::Form::Basis(basis) => Ok(Some(of_sugar(alloc, env, place, *basis)?)),
         _ => Ok(None),
     }
-}
-
-/// A term on the heap.
-pub fn boxed(alloc: Global, exp: Exp) -> Result<Box<Exp>, AllocError> {
-    Ok(on_heap(alloc, exp)?)
 }

@@ -1,6 +1,7 @@
 //! Folders and instances, which calls insert.
 use crate::env::Env;
 use crate::heads::form_of;
+use crate::memory::on_heap;
 use crate::types::{head_of, reduced};
 use con_terms::con::{Con, Cons, Pairs};
 use con_terms::kind::{Kind, copy_kind};
@@ -123,36 +124,42 @@ fn literal_fields(alloc: Global, row: &Con) -> Result<Option<Pairs>, AllocError>
 }
 
 /// An inserted term.
-fn inserted(place: Place, form: Form) -> Exp {
-    Exp {
+fn inserted(alloc: Global, place: Place, form: Form) -> Result<Box<Exp>, AllocError> {
+    let exp = Exp {
         place,
         added: true,
         form,
-    }
+    };
+    on_heap(alloc, exp)
 }
 
 /// The folder of a row whose values have this kind.
-fn folder_of(alloc: Global, place: Place, kind: Kind, row: &Con) -> Result<Exp, ElabFault> {
+fn folder_of(alloc: Global, place: Place, kind: Kind, row: &Con) -> Result<Box<Exp>, ElabFault> {
     match literal_fields(alloc, row)? {
         None => Err(ElabFault::NoFolder(place)),
-        Some(fields) => Ok(inserted(place, Form::Folder(kind, fields))),
+        Some(fields) => Ok(inserted(alloc, place, Form::Folder(kind, fields))?),
     }
 }
 
 /// The instance of this type.
-fn instance_of(alloc: Global, env: &Env, place: Place, t: &Con) -> Result<Exp, ElabFault> {
+fn instance_of(alloc: Global, env: &Env, place: Place, t: &Con) -> Result<Box<Exp>, ElabFault> {
     match env.scope.instance(alloc, t)? {
         None => Err(ElabFault::NoInstance(place)),
         Some(known) => match form_of(known.name) {
             None => Err(ElabFault::NoInstance(place)),
-            Some(form) => Ok(inserted(place, form)),
+            Some(form) => Ok(inserted(alloc, place, form)?),
         },
     }
 }
 
 /// The folder or the instance of this type.
 #[inline(never)]
-pub fn implied_term(alloc: Global, env: &Env, place: Place, t: &Con) -> Result<Exp, ElabFault> {
+pub fn implied_term(
+    alloc: Global,
+    env: &Env,
+    place: Place,
+    t: &Con,
+) -> Result<Box<Exp>, ElabFault> {
     let head = match head_of(alloc, t)? {
         Some(head) => head,
         None => return instance_of(alloc, env, place, t),

@@ -22,11 +22,11 @@ pub fn number_of(negative: bool, digits: u64) -> i64 {
 /// A number.
 pub fn number<'a>(alloc: Global, place: Place, digits: u64) -> Result<Outcome<'a>, ElabFault> {
     let form = Form::Int(number_of(false, digits));
-    Ok(done(alloc, node(place, form), int_type())?)
+    Ok(done(alloc, node(alloc, place, form)?, int_type())?)
 }
 
 /// A text.
 pub fn words<'a>(alloc: Global, place: Place, text: &Text) -> Result<Outcome<'a>, ElabFault> {
     let form = Form::Words(text.copy(alloc)?);
-    Ok(done(alloc, node(place, form), string_type())?)
+    Ok(done(alloc, node(alloc, place, form)?, string_type())?)
 }

@@ -1,4 +1,6 @@
 //! Terms whose type isn't known yet, as far as they are elaborated.
+//!
+//! What is large stands behind a `Box`: a function pays for each large value that it owns wherever it may fail.
 use crate::env::Env;
 use crate::memory::on_heap;
 use crate::want::Typed;
@@ -8,6 +10,7 @@ use con_terms::place::Place;
 use con_terms::symbol::Sym;
 use core_terms::{ConOrigin, Exp, Locals, Pat, Sigil};
 use std::alloc::{AllocError, Global};
+use unknowns::Found;
 
 /// What elaborating a term gave.
 #[cycle(pending)]
@@ -59,7 +62,7 @@ pub struct RecRest<'a> {
 #[derive(Drop)]
 pub struct RecField<'a> {
     pub place: Place,
-    pub name: Con,
+    pub name: Box<Con>,
     pub value: Outcome<'a>,
 }
 
@@ -75,11 +78,11 @@ pub struct PageRest<'a> {
 #[derive(Drop)]
 pub enum Frame<'a> {
     /// `fn p => ..`
-    Fn(Place, Box<Pat>, Con),
+    Fn(Place, Box<Pat>, Box<Con>),
     /// `fn [x :: k] => ..`
-    FnCon(Place, Sym, bool, bool, Kind),
+    FnCon(Place, Sym, bool, bool, Box<Kind>),
     /// `fn [c ~ d] => ..`
-    FnGuard(Place, Con, Con),
+    FnGuard(Place, Box<Con>, Box<Con>),
     /// `let .. in ..`
     Let(Place, Locals),
     /// `case e of p => ..`, with the branches that are still to come.
@@ -117,18 +120,18 @@ pub enum Step<'a> {
     /// A constructor that is found: the unknown that was bound so many unknowns after the first.
     Unknown(Place, ConOrigin, u32),
     /// A constructor that is written.
-    Con(Place, Con),
+    Con(Place, Box<Con>),
     /// A guard's proof, and whether it is inserted.
     Guard(Place, bool),
     /// A folder or an instance of this type, which is inserted.
     Implied(Pattern),
-    Term(Slot<'a>),
+    Term(Box<Slot<'a>>),
 }
 
 /// A type with unknowns, as it is seen under so many of them.
 #[derive(Drop)]
 pub struct Pattern {
-    pub con: Con,
+    pub con: Box<Con>,
     pub under: u32,
 }
 
@@ -159,9 +162,9 @@ pub enum Argument<'a> {
 #[cycle(pending)]
 #[derive(Drop)]
 pub struct Call<'a> {
-    pub env: Env,
+    pub env: Box<Env>,
     pub place: Place,
-    pub head: Exp,
+    pub head: Box<Exp>,
     /// What the source has before the head.
     pub sigil: Sigil,
     /// What the walk inserts: as behind this.
@@ -171,13 +174,13 @@ pub struct Call<'a> {
     pub inputs: Vec<Input<'a>>,
     pub next: usize,
     pub steps: Vec<Step<'a>>,
-    pub found: unknowns::Found,
+    pub found: Box<Found>,
     /// The type that is left.
-    pub rest: Con,
+    pub rest: Box<Con>,
 }
 
 /// A term with its type.
-pub fn done<'a>(alloc: Global, exp: Exp, con: Con) -> Result<Outcome<'a>, AllocError> {
+pub fn done<'a>(alloc: Global, exp: Box<Exp>, con: Con) -> Result<Outcome<'a>, AllocError> {
     Ok(Outcome::Done(on_heap(alloc, Typed { exp, con })?))
 }
 

@@ -10,7 +10,7 @@ use std::alloc::{AllocError, Global};
 /// A term with its type.
 #[derive(Drop)]
 pub struct Typed {
-    pub exp: Exp,
+    pub exp: Box<Exp>,
     pub con: Con,
 }
 
@@ -23,18 +23,28 @@ pub enum Want {
     /// Nothing, and no more will be known: contexts of pages are chosen.
     Choose,
     /// All of it.
-    Whole(Con),
+    Whole(Box<Con>),
     /// That it is a function's, with this parameter.
-    Takes(Con, Box<Want>),
+    Takes(Box<Con>, Box<Want>),
     /// That it is a page's, with what is known of its context and of the fields filled before it.
-    Page(Option<Con>, Option<Con>),
+    Page(Option<Box<Con>>, Option<Box<Con>>),
+}
+
+/// A copy of a constructor, on the heap.
+pub fn boxed_copy(alloc: Global, c: &Con) -> Result<Box<Con>, AllocError> {
+    on_heap(alloc, copy_con(alloc, c)?)
+}
+
+/// What is known where all of a type is.
+pub fn whole(alloc: Global, c: Con) -> Result<Want, AllocError> {
+    Ok(Want::Whole(on_heap(alloc, c)?))
 }
 
 /// A copy of what is known, if any.
-fn copy_known(alloc: Global, known: &Option<Con>) -> Result<Option<Con>, AllocError> {
+fn copy_known(alloc: Global, known: &Option<Box<Con>>) -> Result<Option<Box<Con>>, AllocError> {
     match known {
         None => Ok(None),
-        Some(c) => Ok(Some(copy_con(alloc, c)?)),
+        Some(c) => Ok(Some(boxed_copy(alloc, c)?)),
     }
 }
 
@@ -44,9 +54,9 @@ pub fn copy_want(alloc: Global, want: &Want) -> Result<Want, AllocError> {
     match want {
         Want::Free => Ok(Want::Free),
         Want::Choose => Ok(Want::Choose),
-        Want::Whole(c) => Ok(Want::Whole(copy_con(alloc, c)?)),
+        Want::Whole(c) => Ok(Want::Whole(boxed_copy(alloc, c)?)),
         Want::Takes(c, w) => {
-            let con = copy_con(alloc, c)?;
+            let con = boxed_copy(alloc, c)?;
             let rest = copy_want(alloc, w)?;
             Ok(Want::Takes(con, on_heap(alloc, rest)?))
         }
@@ -72,7 +82,7 @@ pub fn after_term(alloc: Global, want: &Want) -> Result<Want, ElabFault> {
         Want::Choose => Ok(Want::Choose),
         Want::Takes(_, w) => Ok(copy_want(alloc, w)?),
         Want::Whole(c) => match head_of(alloc, c)? {
-            Some(Con::Arrow(_, b)) => Ok(Want::Whole(Box::into_inner(b))),
+            Some(Con::Arrow(_, b)) => Ok(Want::Whole(b)),
             _ => Ok(Want::Choose),
         },
     }
@@ -82,7 +92,7 @@ pub fn after_term(alloc: Global, want: &Want) -> Result<Want, ElabFault> {
 pub fn after_con(alloc: Global, want: &Want) -> Result<Want, ElabFault> {
     match want {
         Want::Whole(c) => match head_of(alloc, c)? {
-            Some(Con::Poly(_, _, b)) => Ok(Want::Whole(Box::into_inner(b))),
+            Some(Con::Poly(_, _, b)) => Ok(Want::Whole(b)),
             _ => Ok(Want::Choose),
         },
         _ => Ok(wants_nothing(want)),
@@ -93,7 +103,7 @@ pub fn after_con(alloc: Global, want: &Want) -> Result<Want, ElabFault> {
 pub fn after_guard(alloc: Global, want: &Want) -> Result<Want, ElabFault> {
     match want {
         Want::Whole(c) => match head_of(alloc, c)? {
-            Some(Con::Guarded(_, _, b)) => Ok(Want::Whole(Box::into_inner(b))),
+            Some(Con::Guarded(_, _, b)) => Ok(Want::Whole(b)),
             _ => Ok(Want::Choose),
         },
         _ => Ok(wants_nothing(want)),

@@ -1,6 +1,6 @@
 //! Declarations.
 use crate::fault::{Refusal, memory, refused};
-use crate::folders::{Done, Task, perform};
+use crate::folders::{Done, Task, declared, perform};
 use crate::groups::of_group;
 use crate::places::{named, written_type};
 use crate::terms::{Env, Terms, TypedTerm};
@@ -21,16 +21,16 @@ struct ValueTask<'a, T: Terms> {
 }
 
 impl<'a, T: Terms> Task for ValueTask<'a, T> {
-    type Made = Named;
+    type Made = Box<Named>;
 
-    fn make(&self, alloc: Global, env: &Env) -> Result<Named, ElabFault> {
+    fn make(&self, alloc: Global, env: &Env) -> Result<Box<Named>, ElabFault> {
         let source = self.source;
         let written = written_type(alloc, env, &source.con, LEVELS)?;
         let TypedTerm { exp, con } = self
             .terms
             .term(alloc, env, written.as_ref(), &source.exp, LEVELS)?;
         let con = written.unwrap_or(con);
-        Ok(named(env, &source.name, source.con.is_some(), con, exp)?)
+        Ok(named(alloc, env, &source.name, source.con.is_some(), con, exp)?)
     }
 }
 
@@ -52,13 +52,14 @@ fn of_value<T: Terms + Drop>(
     tops: Tops,
     file: u32,
     source: &plain_tree::Named,
-) -> Result<Done<Decl>, Refusal> {
+) -> Result<Done<Box<Decl>>, Refusal> {
     let Done { mut tops, made } = perform(alloc, tops, file, &ValueTask { terms, source })?;
     match add_value(alloc, &mut tops, source, &made) {
-        Ok(()) => Ok(Done {
+        Ok(()) => declared(
+            alloc,
             tops,
-            made: Decl::Val(Symbols::new(alloc), made),
-        }),
+            Decl::Val(Symbols::new(alloc), Box::into_inner(made)),
+        ),
         Err(_) => Err(memory(alloc)),
     }
 }
@@ -76,7 +77,7 @@ pub fn of_decl<T: Terms + Drop>(
     tops: Tops,
     file: u32,
     source: &plain_tree::Decl,
-) -> Result<Done<Decl>, Refusal> {
+) -> Result<Done<Box<Decl>>, Refusal> {
     match source {
         plain_tree::Decl::Value(Local::Val(_, value)) => of_value(alloc, terms, tops, file, value),
         plain_tree::Decl::Value(Local::ValRec(_, group)) => of_group(

@@ -2,6 +2,7 @@
 //! symbol is made and the task begins anew.
 use crate::fault::{Refusal, memory, refused};
 use crate::terms::Env;
+use core_terms::Decl;
 use name_scopes::tops::MOST_TYPES;
 use name_scopes::{ElabFault, Scope, Tops};
 use std::alloc::{AllocError, Global};
@@ -107,4 +108,17 @@ pub fn perform<T: Task>(
         }
     }
     Err(memory(alloc))
+}
+
+/// A value on the heap.
+pub fn on_heap<T: Drop>(alloc: Global, value: T) -> Result<Box<T>, AllocError> {
+    Ok(Box::new(alloc, value)?)
+}
+
+/// A declaration that was made, with what is declared.
+pub fn declared(alloc: Global, tops: Tops, decl: Decl) -> Result<Done<Box<Decl>>, Refusal> {
+    match on_heap(alloc, decl) {
+        Ok(made) => Ok(Done { tops, made }),
+        Err(_) => Err(memory(alloc)),
+    }
 }

@@ -1,6 +1,6 @@
 //! Values that are declared together: `val rec` and `fun`.
 use crate::fault::{Refusal, memory};
-use crate::folders::{Done, Task, perform};
+use crate::folders::{Done, Task, declared, perform};
 use crate::places::{named, written_type};
 use crate::terms::{Env, Terms, TypedTerm};
 use crate::texts::LEVELS;
@@ -89,7 +89,8 @@ impl<'a, T: Terms> Task for TermsTask<'a, T> {
                 .terms
                 .term(alloc, env, told.as_ref(), &source.exp, LEVELS)?;
             let con = told.unwrap_or(con);
-            built.push(named(env, &source.name, source.con.is_some(), con, exp)?)?;
+            let value = named(alloc, env, &source.name, source.con.is_some(), con, exp)?;
+            built.push(Box::into_inner(value))?;
         }
         Ok(built)
     }
@@ -134,7 +135,7 @@ pub fn of_group<T: Terms + Drop>(
     tops: Tops,
     file: u32,
     group: &plain_tree::NamedList,
-) -> Result<Done<Decl>, Refusal> {
+) -> Result<Done<Box<Decl>>, Refusal> {
     let Done { mut tops, made } = perform(alloc, tops, file, &TypesTask { terms, group })?;
     let first = tops.values.len();
     let types = made;
@@ -148,10 +149,7 @@ pub fn of_group<T: Terms + Drop>(
     };
     let Done { mut tops, made } = perform(alloc, tops, file, &task)?;
     match set_types(alloc, &mut tops, first, &made) {
-        Ok(()) => Ok(Done {
-            tops,
-            made: Decl::ValRec(Symbols::new(alloc), made),
-        }),
+        Ok(()) => declared(alloc, tops, Decl::ValRec(Symbols::new(alloc), made)),
         Err(_) => Err(memory(alloc)),
     }
 }

@@ -1,4 +1,5 @@
 //! Names at their places, and constructors of a kind.
+use crate::folders::on_heap;
 use crate::terms::Env;
 use con_terms::con::Con;
 use con_terms::kind::Kind;
@@ -30,19 +31,22 @@ pub fn place_of(env: &Env, at: u32) -> Place {
 
 /// A value's name with its term and its type.
 pub fn named(
+    alloc: Global,
     env: &Env,
     word: &Word,
     written: bool,
     con: Con,
-    exp: Exp,
-) -> Result<Named, AllocError> {
-    Ok(Named {
+    exp: Box<Exp>,
+) -> Result<Box<Named>, AllocError> {
+    let name = symbol_of(env, word)?;
+    let value = Named {
         place: place_of(env, word.at),
-        name: symbol_of(env, word)?,
+        name,
         written,
         con,
-        exp,
-    })
+        exp: Box::into_inner(exp),
+    };
+    on_heap(alloc, value)
 }
 
 /// A type that is written, where one is.

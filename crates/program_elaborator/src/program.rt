@@ -89,7 +89,7 @@ fn of_module<T: Terms + Drop>(
     for i in 0..tree.decls.items.len() {
         let Done { tops, mut made } = whole;
         let declared = of_decl(alloc, terms, tops, file, &tree.decls.items[i])?;
-        if made.push(declared.made).is_err() {
+        if made.push(Box::into_inner(declared.made)).is_err() {
             return Err(memory(alloc));
         }
         whole = Done {

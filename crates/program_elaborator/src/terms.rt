@@ -7,7 +7,7 @@ use std::alloc::Global;
 /// A term with its type.
 #[derive(Drop)]
 pub struct TypedTerm {
-    pub exp: Exp,
+    pub exp: Box<Exp>,
     pub con: Con,
 }
 

@@ -1,6 +1,6 @@
 //! Names of the type level: `con`, `type` and `datatype`.
 use crate::fault::{Refusal, memory};
-use crate::folders::{Done, Task, perform};
+use crate::folders::{Done, Task, declared, on_heap, perform};
 use crate::places::{place_of, symbol_of, symbols_of, type_of};
 use crate::terms::Env;
 use crate::texts::LEVELS;
@@ -28,9 +28,9 @@ fn written_or(alloc: Global, written: &Option<Kind>, found: Kind) -> Result<Kind
 }
 
 impl<'a> Task for ConTask<'a> {
-    type Made = ConDecl;
+    type Made = Box<ConDecl>;
 
-    fn make(&self, alloc: Global, env: &Env) -> Result<ConDecl, ElabFault> {
+    fn make(&self, alloc: Global, env: &Env) -> Result<Box<ConDecl>, ElabFault> {
         let source = self.source;
         let names = env.scope.names();
         let wanted = source.kind.as_ref();
@@ -43,14 +43,17 @@ impl<'a> Task for ConTask<'a> {
             wanted,
             LEVELS,
         )?;
-        Ok(ConDecl {
+        let name = symbol_of(env, &source.name)?;
+        let kind = written_or(alloc, &source.kind, found)?;
+        let built = ConDecl {
             path: Symbols::new(alloc),
             place: place_of(env, source.at),
-            name: symbol_of(env, &source.name)?,
+            name,
             written: source.kind.is_some(),
-            kind: written_or(alloc, &source.kind, found)?,
+            kind,
             con,
-        })
+        };
+        Ok(on_heap(alloc, built)?)
     }
 }
 
@@ -72,13 +75,10 @@ pub fn of_con(
     tops: Tops,
     file: u32,
     source: &TypeDecl,
-) -> Result<Done<Decl>, Refusal> {
+) -> Result<Done<Box<Decl>>, Refusal> {
     let Done { mut tops, made } = perform(alloc, tops, file, &ConTask { source })?;
     match add_con(alloc, &mut tops, source, &made) {
-        Ok(()) => Ok(Done {
-            tops,
-            made: Decl::Con(made),
-        }),
+        Ok(()) => declared(alloc, tops, Decl::Con(Box::into_inner(made))),
         Err(_) => Err(memory(alloc)),
     }
 }
@@ -124,24 +124,27 @@ fn constructor(
 }
 
 impl<'a> Task for DatatypeTask<'a> {
-    type Made = Datatype;
+    type Made = Box<Datatype>;
 
-    fn make(&self, alloc: Global, env: &Env) -> Result<Datatype, ElabFault> {
+    fn make(&self, alloc: Global, env: &Env) -> Result<Box<Datatype>, ElabFault> {
         let source = self.source;
         let under = under_parameters(alloc, env, source)?;
         let mut constructors = Constructors::new(alloc);
         for i in 0..source.builders.items.len() {
             constructors.push(constructor(alloc, &under, &source.builders.items[i])?)?;
         }
-        Ok(Datatype {
+        let name = symbol_of(env, &source.name)?;
+        let parameters = symbols_of(alloc, env, &source.parameters)?;
+        let built = Datatype {
             path: Symbols::new(alloc),
             place: place_of(env, source.at),
             module: Some(env.file),
-            name: symbol_of(env, &source.name)?,
+            name,
             symbol: self.symbol,
-            parameters: symbols_of(alloc, env, &source.parameters)?,
+            parameters,
             constructors,
-        })
+        };
+        Ok(on_heap(alloc, built)?)
     }
 }
 
@@ -151,7 +154,7 @@ pub fn of_datatype(
     tops: Tops,
     file: u32,
     source: &plain_tree::Datatype,
-) -> Result<Done<Decl>, Refusal> {
+) -> Result<Done<Box<Decl>>, Refusal> {
     let mut tops = tops;
     let parameters = source.parameters.items.len();
     let Ok(symbol) = tops.begin_datatype(&source.name.text, parameters) else {
@@ -160,10 +163,7 @@ pub fn of_datatype(
     let task = DatatypeTask { source, symbol };
     let Done { mut tops, made } = perform(alloc, tops, file, &task)?;
     match tops.add_builders(&made) {
-        Ok(()) => Ok(Done {
-            tops,
-            made: Decl::Datatype(made),
-        }),
+        Ok(()) => declared(alloc, tops, Decl::Datatype(Box::into_inner(made))),
         Err(_) => Err(memory(alloc)),
     }
 }
