@@ -1,12 +1,10 @@
 #!/usr/bin/env python3
-"""Runs each module of a document through the built program: a block fenced as ```ur must be read, page or not.
-
-It is read where it has a page, or is refused for another reason than those of the lexer and the parser."""
+"""Runs each module of a document through the built program: a block fenced as ```ur must be read, page or not."""
 import re
 import subprocess
 import sys
 
-UNREAD = re.compile(rb"Main\.ur(:\d+)?: (FileTooLong|NotUtf8|BadChar|OpenText|OpenComment|IntTooLarge|Syntax|TooDeep)\n")
+READ = b"Main.ur: NotBuilt\n"
 
 
 def modules_of(path):
@@ -18,7 +16,7 @@ def main(program, path):
     modules, failed = modules_of(path), 0
     for number, text in enumerate(modules, 1):
         ran = subprocess.run([program, "page"], input=text.encode("utf-8"), capture_output=True, timeout=60)
-        if ran.returncode not in (0, 1) or UNREAD.fullmatch(ran.stdout):
+        if ran.returncode and ran.stdout != READ:
             failed += 1
             print(f"block {number} of {path}: {ran.stdout!r}")
     if not modules:

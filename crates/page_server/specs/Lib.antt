@@ -1,4 +1,3 @@
 pub mod Lines
 pub mod Modules
 pub mod Top
-pub mod Words

@@ -1,2 +1,0 @@
-val main : unit -> transaction page
-val rules : unit -> transaction page
