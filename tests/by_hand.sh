@@ -2,7 +2,8 @@
 # Tries the wrong bodies of crates whose proofs are dear: those in crates/NAME/must-fail-by-hand, which ./test leaves out, since the
 # crate is proved once more for them.
 #
-# usage: tests/by_hand.sh [NAME..]     with no name, all of them: about three hours of a processor
+# usage: tests/by_hand.sh [NAME..]     with no name, all of them: well over an hour of a processor, and more where the
+# libraries below aren't built
 #
 # It works on a copy, and leaves nothing behind. The status is that of `rt must-fail`.
 set -eu
