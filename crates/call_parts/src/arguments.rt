@@ -85,7 +85,35 @@ fn side(alloc: Global, found: &Found, c: Normal) -> Result<Con, AllocError> {
     }
 }
 
-/// What is told of a refusal to match. In the sides `()` stands for each unknown for which nothing was found.
+/// The sides of types that differ, as they are told.
+#[derive(Drop)]
+struct Sides {
+    /// That of the pattern.
+    pattern: Con,
+    /// That of the type that should have matched.
+    actual: Con,
+}
+
+/// The sides of types that differ. In them `()` stands for each unknown for which nothing was found.
+fn sides_of(alloc: Global, found: &mut Found, apart: Box<Apart>) -> Result<Sides, AllocError> {
+    let Apart {
+        under,
+        wanted,
+        found: other,
+    } = Box::into_inner(apart);
+    if under == 0 {
+        return Ok(Sides {
+            pattern: wanted.into_con(),
+            actual: other.into_con(),
+        });
+    }
+    close_open(alloc, found)?;
+    let pattern = side(alloc, found, wanted)?;
+    let actual = side(alloc, found, other)?;
+    Ok(Sides { pattern, actual })
+}
+
+/// What is told of a type that doesn't match the one that is wanted, which is the pattern.
 #[inline(never)]
 pub fn told_refusal(
     alloc: Global,
@@ -97,18 +125,26 @@ pub fn told_refusal(
     match refusal {
         Refusal::TooLarge => Ok(ElabFault::Told(Fault::TooLarge(place))),
         Refusal::Differ(apart) => {
-            let Apart {
-                under,
-                wanted,
-                found: other,
-            } = Box::into_inner(apart);
-            if under == 0 {
-                return mismatch(alloc, env, place, wanted.into_con(), other.into_con());
-            }
-            close_open(alloc, found)?;
-            let wanted = side(alloc, found, wanted)?;
-            let other = side(alloc, found, other)?;
-            mismatch(alloc, env, place, wanted, other)
+            let Sides { pattern, actual } = sides_of(alloc, found, apart)?;
+            mismatch(alloc, env, place, pattern, actual)
+        }
+    }
+}
+
+/// What is told of a call's result, which is the pattern, where another type is wanted.
+#[inline(never)]
+pub fn told_result(
+    alloc: Global,
+    env: &Env,
+    found: &mut Found,
+    place: Place,
+    refusal: Refusal,
+) -> Result<ElabFault, AllocError> {
+    match refusal {
+        Refusal::TooLarge => Ok(ElabFault::Told(Fault::TooLarge(place))),
+        Refusal::Differ(apart) => {
+            let Sides { pattern, actual } = sides_of(alloc, found, apart)?;
+            mismatch(alloc, env, place, actual, pattern)
         }
     }
 }

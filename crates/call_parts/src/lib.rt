@@ -1,15 +1,10 @@
-//! The steps of inference that elaborate no other term: a call's type walked, matched and put together, patterns and
-//! parameters, what stands around a term.
+//! The steps of a call that elaborate no other term: its type walked, its arguments matched, and what was found put
+//! together; and the parts of a page's type, which a call's result is matched with.
 #![tactic(auto)]
 
 pub mod alone;
 pub mod arguments;
-pub mod binders;
 pub mod calls;
 pub mod finish;
-pub mod parameters;
-pub mod patterns;
-pub mod signatures;
+pub mod pages;
 pub mod walk;
-
-pub use signatures::signature_of;

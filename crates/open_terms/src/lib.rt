@@ -8,6 +8,7 @@ pub mod heads;
 pub mod implied;
 pub mod leaves;
 pub mod memory;
+pub mod open_places;
 pub mod pending;
 pub mod rows;
 pub mod types;

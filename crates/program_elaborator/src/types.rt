@@ -7,6 +7,7 @@ use crate::texts::LEVELS;
 use con_terms::con::Con;
 use con_terms::copy::copy_con;
 use con_terms::kind::{Kind, copy_kind};
+use con_terms::size::fits;
 use con_terms::symbol::Sym;
 use core_terms::{ConDecl, Constructor, Constructors, Datatype, Decl, Symbols};
 use name_scopes::{ElabFault, Tops};
@@ -57,6 +58,10 @@ impl<'a> Task for ConTask<'a> {
     }
 }
 
+/// How deep what a name means may be. What is deeper counts as want of memory: names can be put together of names, so
+/// the nesting of a source doesn't bound it.
+const DEEPEST: u32 = 2_000;
+
 /// Declares a name by what it means.
 fn add_con(
     alloc: Global,
@@ -64,6 +69,9 @@ fn add_con(
     source: &TypeDecl,
     made: &ConDecl,
 ) -> Result<(), AllocError> {
+    if !fits(&made.con, DEEPEST) {
+        return Err(AllocError);
+    }
     let con = copy_con(alloc, &made.con)?;
     let kind = copy_kind(alloc, &made.kind)?;
     tops.add_type(&source.name.text, con, kind)

@@ -1,5 +1,5 @@
 use Rattle.std.proofs.Common.{vec_len}
-use Rattle.call_parts.proofs.signatures.before_all.Given as goal
+use Rattle.term_parts.proofs.signatures.before_all.Given as goal
 
 abbrev pub decreases-builds : goal.decreases-builds
 decreases-builds l = vec_len l.parts

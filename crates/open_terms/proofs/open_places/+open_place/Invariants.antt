@@ -1,5 +1,5 @@
 use Rattle.std.proofs.Common.{◌+◌}
-use Rattle.call_parts.proofs.finish.+open_place.Given as goal
+use Rattle.open_terms.proofs.open_places.+open_place.Given as goal
 
 abbrev pub decreases-open_place : goal.decreases-open_place
 decreases-open_place l = l.room

@@ -1,5 +1,5 @@
 use Rattle.std.proofs.Common.{◌+◌, ◌*◌}
-use Rattle.call_parts.proofs.patterns.+pattern.Given as goal
+use Rattle.term_parts.proofs.patterns.+pattern.Given as goal
 
 abbrev pub decreases-pattern : goal.decreases-pattern
 decreases-pattern l = 2 * l.room

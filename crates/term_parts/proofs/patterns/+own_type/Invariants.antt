@@ -1,5 +1,5 @@
 use Rattle.std.proofs.Common.{◌+◌, ◌*◌}
-use Rattle.call_parts.proofs.patterns.+own_type.Given as goal
+use Rattle.term_parts.proofs.patterns.+own_type.Given as goal
 
 abbrev pub decreases-own_type : goal.decreases-own_type
 decreases-own_type l = 2 * l.room

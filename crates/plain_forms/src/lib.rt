@@ -1,0 +1,7 @@
+//! Functions, cases and lets while their types are found: each ends, or asks for one part and says how it goes on once
+//! that is there.
+#![tactic(auto)]
+
+pub mod frames;
+pub mod functions;
+pub mod lets;

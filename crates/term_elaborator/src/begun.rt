@@ -1,0 +1,31 @@
+//! Parts that were open, as they begin once more.
+use name_scopes::ElabFault;
+use open_terms::memory::on_heap;
+use open_terms::pending::Pending;
+use open_terms::want::Want;
+use plain_forms::frames::{Around, FrameAfter};
+use std::alloc::Global;
+use term_parts::parameters::want_inside;
+use term_parts::progress::{Part, Progress, ask};
+
+/// A term that was open and has something around it: the open part first.
+pub fn around<'a>(
+    alloc: Global,
+    pending: Box<Pending<'a>>,
+    want: Want,
+    room: u32,
+) -> Result<Progress<'a, FrameAfter<'a>>, ElabFault> {
+    let Pending { frames, core } = Box::into_inner(pending);
+    if frames.len() >= room as usize {
+        return Err(ElabFault::Memory);
+    }
+    let left = room - frames.len() as u32;
+    let inside = want_inside(alloc, &frames, &want)?;
+    let inner = Pending {
+        frames: Vec::new(alloc),
+        core,
+    };
+    let part = Part::Open(on_heap(alloc, inner)?, inside);
+    let around = on_heap(alloc, Around { frames, left })?;
+    ask(alloc, FrameAfter::Around(around), part, left)
+}

@@ -1,0 +1,276 @@
+//! The recursion: a term and the parts that it asks for.
+//!
+//! Each form has a loop of its own, so that no function has to know the states of all forms.
+use crate::begun::around;
+use call_forms::calls;
+use call_forms::calls::{CallAfter, of_call, of_name, run, settle};
+use chain_forms::chains;
+use chain_forms::chains::{ChainAfter, of_chain};
+use con_terms::con::Con;
+use name_scopes::ElabFault;
+use open_terms::env::Env;
+use open_terms::leaves::{number, words};
+use open_terms::pending::{Core, Outcome, Pending};
+use open_terms::want::{Typed, Want, boxed_copy};
+use page_forms::literals;
+use page_forms::literals::{of_page, of_xml};
+use page_forms::placing::PageAfter;
+use plain_forms::frames::{FrameAfter, of_case};
+use plain_forms::functions::{of_fn, of_fn_rest};
+use plain_forms::lets::{LetAfter, of_let, of_typed};
+use plain_forms::{frames, lets};
+use plain_tree::{Exp, Form};
+use record_forms::records;
+use record_forms::records::{RecordAfter, of_record, of_record_rest};
+use std::alloc::Global;
+use term_parts::progress::{Asked, Part, Progress, Sought, settled, term};
+
+/// A term of the source as a term of the explicit language, with its type. It and what it is built of nest at most
+/// `room` deep; what would nest deeper counts as want of memory.
+pub fn elaborate_term(
+    alloc: Global,
+    env: Env,
+    wanted: Option<&Con>,
+    e: &Exp,
+    room: u32,
+) -> Result<Box<Typed>, ElabFault> {
+    let want = match wanted {
+        None => Want::Choose,
+        Some(c) => Want::Whole(boxed_copy(alloc, c)?),
+    };
+    let part = term(alloc, env, want, e)?;
+    settled(elab(alloc, part, room)?)
+}
+
+/// A part, as far as it can be elaborated where this is known of its type. Each part that it asks for has fewer
+/// levels.
+#[cycle(elab)]
+pub fn elab<'a>(alloc: Global, part: Part<'a>, room: u32) -> Result<Outcome<'a>, ElabFault> {
+    match part {
+        Part::Term(sought) => of_term(alloc, sought, room),
+        Part::Open(pending, want) => of_open(alloc, pending, want, room),
+        Part::Call(call, want) => call_to_end(alloc, run(alloc, call, want, room)?, room),
+    }
+}
+
+/// A part, for which so many levels are left.
+#[cycle(elab)]
+fn below<'a>(
+    alloc: Global,
+    part: Part<'a>,
+    level: u32,
+    room: u32,
+) -> Result<Outcome<'a>, ElabFault> {
+    if level >= room {
+        return Err(ElabFault::Memory);
+    }
+    elab(alloc, part, level)
+}
+
+/// A term by its form.
+#[cycle(elab)]
+fn of_term<'a>(
+    alloc: Global,
+    sought: Box<Sought<'a>>,
+    room: u32,
+) -> Result<Outcome<'a>, ElabFault> {
+    if room == 0 {
+        return Err(ElabFault::Memory);
+    }
+    let source = sought.source;
+    match &source.form {
+        Form::Int(digits) => Ok(number(alloc, sought.place(), *digits)?),
+        Form::Words(text) => Ok(words(alloc, sought.place(), text)?),
+        Form::Name(_, _) | Form::Builder(_, _) | Form::Basis(_) => {
+            call_to_end(alloc, of_name(alloc, sought, room)?, room)
+        }
+        Form::Call(head, items) => {
+            call_to_end(alloc, of_call(alloc, sought, head, items, room)?, room)
+        }
+        Form::Fn(args, body) => {
+            frame_to_end(alloc, of_fn(alloc, sought, args, body, room)?, room)
+        }
+        Form::Case(scrutinee, first, rest) => {
+            frame_to_end(
+                alloc,
+                of_case(alloc, sought, scrutinee, first, rest, room)?,
+                room,
+            )
+        }
+        Form::Let(locals, body) => {
+            let_to_end(alloc, of_let(alloc, sought, locals, body, room)?, room)
+        }
+        Form::Typed(inner, c) => {
+            let_to_end(alloc, of_typed(alloc, sought, inner, c, room)?, room)
+        }
+        Form::Rec(fields) => { record_to_end(alloc, of_record(alloc, sought, fields, room)?, room) }
+        Form::Chain(first, links) => {
+            chain_to_end(alloc, of_chain(alloc, sought, first, links, room)?, room)
+        }
+        Form::Xml(nodes) => page_to_end(alloc, of_xml(alloc, sought, nodes, room)?, room),
+        Form::Sql(_, _) => Err(ElabFault::NotBuilt(sought.place())),
+    }
+}
+
+/// A term that was open, now that more is known of its type: the open part first, where something stands around it.
+#[cycle(elab)]
+fn of_open<'a>(
+    alloc: Global,
+    pending: Box<Pending<'a>>,
+    want: Want,
+    room: u32,
+) -> Result<Outcome<'a>, ElabFault> {
+    if pending.frames.is_empty() {
+        let Pending { frames: _, core } = Box::into_inner(pending);
+        return of_core(alloc, core, want, room);
+    }
+    frame_to_end(alloc, around(alloc, pending, want, room)?, room)
+}
+
+/// A part that was open, of which this is wanted now.
+#[cycle(elab)]
+fn of_core<'a>(
+    alloc: Global,
+    core: Core<'a>,
+    want: Want,
+    room: u32,
+) -> Result<Outcome<'a>, ElabFault> {
+    match core {
+        Core::Fn(rest) => frame_to_end(alloc, of_fn_rest(alloc, rest, want, room)?, room),
+        Core::Call(call) => call_to_end(alloc, settle(alloc, call, want, room)?, room),
+        Core::Rec(rest) => record_to_end(alloc, of_record_rest(alloc, rest, want, room)?, room),
+        Core::Page(rest) => page_to_end(alloc, of_page(alloc, rest, &want, room)?, room),
+    }
+}
+
+/// A name or a call to its end.
+#[cycle(elab)]
+#[inline(never)]
+fn call_to_end<'a>(
+    alloc: Global,
+    begun: Progress<'a, CallAfter<'a>>,
+    room: u32,
+) -> Result<Outcome<'a>, ElabFault> {
+    let mut progress = begun;
+    for _ in 0..u32::MAX {
+        match progress {
+            Progress::Ended(outcome) => return Ok(outcome),
+            Progress::Asks(asked) => {
+                let Asked { after, part, level } = Box::into_inner(asked);
+                let outcome = below(alloc, part, level, room)?;
+                progress = calls::go_on(alloc, after, outcome, room)?;
+            }
+        }
+    }
+    Err(ElabFault::Memory)
+}
+
+/// What stands inside of frames, the body of a function too, to its end.
+#[cycle(elab)]
+#[inline(never)]
+fn frame_to_end<'a>(
+    alloc: Global,
+    begun: Progress<'a, FrameAfter<'a>>,
+    room: u32,
+) -> Result<Outcome<'a>, ElabFault> {
+    let mut progress = begun;
+    for _ in 0..u32::MAX {
+        match progress {
+            Progress::Ended(outcome) => return Ok(outcome),
+            Progress::Asks(asked) => {
+                let Asked { after, part, level } = Box::into_inner(asked);
+                let outcome = below(alloc, part, level, room)?;
+                progress = frames::go_on(alloc, after, outcome, room)?;
+            }
+        }
+    }
+    Err(ElabFault::Memory)
+}
+
+/// A `let`, or a term with its type, to its end.
+#[cycle(elab)]
+#[inline(never)]
+fn let_to_end<'a>(
+    alloc: Global,
+    begun: Progress<'a, LetAfter<'a>>,
+    room: u32,
+) -> Result<Outcome<'a>, ElabFault> {
+    let mut progress = begun;
+    for _ in 0..u32::MAX {
+        match progress {
+            Progress::Ended(outcome) => return Ok(outcome),
+            Progress::Asks(asked) => {
+                let Asked { after, part, level } = Box::into_inner(asked);
+                let outcome = below(alloc, part, level, room)?;
+                progress = lets::go_on(alloc, after, outcome, room)?;
+            }
+        }
+    }
+    Err(ElabFault::Memory)
+}
+
+/// A record to its end.
+#[cycle(elab)]
+#[inline(never)]
+fn record_to_end<'a>(
+    alloc: Global,
+    begun: Progress<'a, RecordAfter<'a>>,
+    room: u32,
+) -> Result<Outcome<'a>, ElabFault> {
+    let mut progress = begun;
+    for _ in 0..u32::MAX {
+        match progress {
+            Progress::Ended(outcome) => return Ok(outcome),
+            Progress::Asks(asked) => {
+                let Asked { after, part, level } = Box::into_inner(asked);
+                let outcome = below(alloc, part, level, room)?;
+                progress = records::go_on(alloc, after, outcome, room)?;
+            }
+        }
+    }
+    Err(ElabFault::Memory)
+}
+
+/// A chain to its end.
+#[cycle(elab)]
+#[inline(never)]
+fn chain_to_end<'a>(
+    alloc: Global,
+    begun: Progress<'a, ChainAfter<'a>>,
+    room: u32,
+) -> Result<Outcome<'a>, ElabFault> {
+    let mut progress = begun;
+    for _ in 0..u32::MAX {
+        match progress {
+            Progress::Ended(outcome) => return Ok(outcome),
+            Progress::Asks(asked) => {
+                let Asked { after, part, level } = Box::into_inner(asked);
+                let outcome = below(alloc, part, level, room)?;
+                progress = chains::go_on(alloc, after, outcome, room)?;
+            }
+        }
+    }
+    Err(ElabFault::Memory)
+}
+
+/// A literal of pages to its end.
+#[cycle(elab)]
+#[inline(never)]
+fn page_to_end<'a>(
+    alloc: Global,
+    begun: Progress<'a, PageAfter<'a>>,
+    room: u32,
+) -> Result<Outcome<'a>, ElabFault> {
+    let mut progress = begun;
+    for _ in 0..u32::MAX {
+        match progress {
+            Progress::Ended(outcome) => return Ok(outcome),
+            Progress::Asks(asked) => {
+                let Asked { after, part, level } = Box::into_inner(asked);
+                let outcome = below(alloc, part, level, room)?;
+                progress = literals::go_on(alloc, after, outcome, room)?;
+            }
+        }
+    }
+    Err(ElabFault::Memory)
+}
