@@ -1,4 +1,10 @@
 //! The trees of a page, node by node.
+ghost use Rattle.std.specs.Prelude.{◌≡◌, suc, ◌+◌, ◌<◌, map, ◌⊎◌, IfOk, IfErr, OnOk};
+ghost use Rattle.xml_trees.specs.Trees.{Whole, Within, Nothing, built, built_and, ended};
+ghost use Rattle.xml_trees.specs.SourceNames.{page_tag};
+ghost use Rattle.run_values.specs.declared.stop.Stop.{Stop};
+ghost use Rattle.page_walk.specs.Walked.{trees, nodes, attribute, all_done, nodes_left};
+
 use crate::bound::count;
 use run_values::{Given, Stop, Tree, tick};
 use std::alloc::{AllocError, Global};
@@ -15,8 +21,14 @@ enum Todo<'r> {
     End,
 }
 
+#[tactic(auto, using(crate::proofs::Doing::last_is_first, crate::proofs::Doing::nodes_of_last))]
 /// The page of trees as they were put together, with a step for each node.
-pub fn walked<'r>(alloc: Global, tree: &'r Tree<'r>, budget: &mut u64) -> Result<Page, Stop> {
+pub fn walked<'r>(alloc: Global, tree: &'r Tree<'r>, budget: &mut u64) -> Result<Page, Stop>
+    ensures page { IfOk result (λ page. built page ≡ Whole (trees tree.now)) }
+    ensures steps { OnOk result (budget.old ≡ nodes tree.now + budget.new) }
+    ensures stops { IfErr result (λ stop. (stop ≡ Stop.OverBudget) ⊎ (stop ≡ Stop.Memory)) }
+    ensures spent { IfErr result (λ stop. stop ≡ Stop.OverBudget → budget.old < nodes tree.now) }
+{
     let mut page = Page::new(alloc);
     let mut todo = Vec::new(alloc);
     let mut bytes = 0;
@@ -35,14 +47,17 @@ pub fn walked<'r>(alloc: Global, tree: &'r Tree<'r>, budget: &mut u64) -> Result
 }
 
 #[tactic(auto, using(crate::proofs::Ends::unfinished))]
-/// Ends the innermost element.
-fn end(page: &mut Page) -> Result<(), AllocError> {
+/// Ends the innermost element, where there is one.
+fn end(page: &mut Page) -> Result<(), AllocError>
+    ensures { OnOk result (built page.new ≡ ended (built page.old)) }
+{
     if page.is_whole() {
         return Ok(());
     }
     page.end()
 }
 
+#[tactic(auto, using(crate::proofs::Doing::nothing_more, crate::proofs::Doing::joined, crate::proofs::Doing::joined_nodes, crate::proofs::Doing::inside, crate::proofs::Doing::inside_nodes, crate::proofs::Parts::nothing_trees, crate::proofs::Parts::nothing_nodes, crate::proofs::Parts::words_trees, crate::proofs::Parts::words_nodes, crate::proofs::Parts::joined_trees, crate::proofs::Parts::joined_nodes, crate::proofs::Parts::element_trees, crate::proofs::Parts::element_nodes))]
 /// Writes a node, and puts down what is to be done for it then.
 fn enter<'r>(
     alloc: Global,
@@ -50,7 +65,11 @@ fn enter<'r>(
     page: &mut Page,
     todo: &mut Vec<Todo<'r>>,
     bytes: &mut u64,
-) -> Result<(), AllocError> {
+) -> Result<(), AllocError>
+    ensures done { OnOk result (all_done todo.new.items (built page.new)
+        ≡ all_done todo.old.items (built_and (built page.old) (trees tree.now))) }
+    ensures nodes { OnOk result (suc (nodes_left todo.new.items) ≡ nodes_left todo.old.items + nodes tree.now) }
+{
     match tree {
         Tree::Nothing => Ok(()),
         Tree::Words(text) => {
@@ -77,17 +96,34 @@ fn begin<'r>(
     given: &'r [Given<'r>],
     page: &mut Page,
     bytes: &mut u64,
-) -> Result<(), AllocError> {
-    let tag = tag.tag(Text::of(alloc, field)?);
+) -> Result<(), AllocError>
+    ensures { OnOk result (built page.new
+        ≡ Within (built page.old) (page_tag tag field.now) (map attribute given.now) Nothing) }
+{
+    let attrs = attributes_of(alloc, given, bytes)?;
+    let field = Text::of(alloc, field)?;
+    page.begin(tag.tag(field), attrs)
+}
+
+/// The attributes of the page, in order.
+fn attributes_of<'r>(
+    alloc: Global,
+    given: &'r [Given<'r>],
+    bytes: &mut u64,
+) -> Result<Attrs, AllocError>
+    ensures { IfOk result (λ made. made ≡ map attribute given.now) }
+{
     let mut attrs = Attrs::new(alloc);
     for attribute in given {
         attrs.push(attribute_of(alloc, attribute, bytes)?)?;
     }
-    page.begin(tag, attrs)
+    Ok(attrs)
 }
 
 /// An attribute of the page.
-fn attribute_of<'r>(alloc: Global, given: &Given<'r>, bytes: &mut u64) -> Result<Attr, AllocError> {
+fn attribute_of<'r>(alloc: Global, given: &Given<'r>, bytes: &mut u64) -> Result<Attr, AllocError>
+    ensures { IfOk result (λ made. made ≡ attribute given.now) }
+{
     Ok(match given {
         Given::Title(text) => Attr::Title(owned(alloc, text, bytes)?),
         Given::Link(text) => Attr::Link(owned(alloc, text, bytes)?),
@@ -102,7 +138,9 @@ fn attribute_of<'r>(alloc: Global, given: &Given<'r>, bytes: &mut u64) -> Result
 }
 
 /// A text of the page, counted.
-fn owned(alloc: Global, text: &str, bytes: &mut u64) -> Result<Text, AllocError> {
+fn owned(alloc: Global, text: &str, bytes: &mut u64) -> Result<Text, AllocError>
+    ensures { IfOk result (λ made. made ≡ text.now) }
+{
     count(text, bytes)?;
     Text::of(alloc, text)
 }
