@@ -4,7 +4,7 @@ use Rattle.surface_tree.specs.declared.token.Token.{Token}
 use Rattle.ur_lexer.specs.Lexing.{at_end, at_fault, Ending, TextsHaveOneReading}
 use Rattle.ur_parser.specs.Small.{IsSmall, SmallModulesAreUnique}
 use Rattle.ur_parser.specs.Pages.{page_of}
-use Rattle.page_server.specs.declared.refusal.ModuleFault.TheVariants.{FileTooLong, NotUtf8, BadChar, OpenText, OpenComment, IntTooLarge, Syntax, TooDeep, NotBuilt, Memory}
+use Rattle.page_server.specs.declared.refusal.ModuleFault.TheVariants.{FileTooLong, NotUtf8, BadChar, OpenText, OpenComment, IntTooLarge, Syntax, TooDeep, ManyTables, NotBuilt, OtherForm, Memory}
 use Rattle.page_server.specs.Modules.{ModulesHaveOneAnswer, ModulesHaveOnePage}
 
 -- no reading ends both at the text's end and at a fault
@@ -24,8 +24,14 @@ one_answer one bytes trees (Syntax at) (is, few, tokens, lexes, m, small, page) 
 one_answer one bytes trees (TooDeep at) (is, few, tokens, lexes, m, small, page) (same, (others, reads, (inl long, told))) = absurd (omega (arith, few, long))
 one_answer one bytes trees (TooDeep at) (is, few, tokens, lexes, m, small, page) (same, (others, reads, (inr none, told))) =
     absurd (none m (subst (λ (l : List Token). IsSmall l m) (one bytes tokens others _ _ lexes reads).0 small))
-one_answer one bytes trees NotBuilt (is, few, tokens, lexes, m, small, page) (same, (others, reads, (inl long, told))) = absurd (omega (arith, few, long))
-one_answer one bytes trees NotBuilt (is, few, tokens, lexes, m, small, page) (same, (others, reads, (inr none, told))) =
+one_answer one bytes trees ManyTables (is, few, tokens, lexes, m, small, page) (same, (others, reads, (inl long, told))) = absurd (omega (arith, few, long))
+one_answer one bytes trees ManyTables (is, few, tokens, lexes, m, small, page) (same, (others, reads, (inr none, told))) =
+    absurd (none m (subst (λ (l : List Token). IsSmall l m) (one bytes tokens others _ _ lexes reads).0 small))
+one_answer one bytes trees (NotBuilt at) (is, few, tokens, lexes, m, small, page) (same, (others, reads, (inl long, told))) = absurd (omega (arith, few, long))
+one_answer one bytes trees (NotBuilt at) (is, few, tokens, lexes, m, small, page) (same, (others, reads, (inr none, told))) =
+    absurd (none m (subst (λ (l : List Token). IsSmall l m) (one bytes tokens others _ _ lexes reads).0 small))
+one_answer one bytes trees OtherForm (is, few, tokens, lexes, m, small, page) (same, (others, reads, (inl long, told))) = absurd (omega (arith, few, long))
+one_answer one bytes trees OtherForm (is, few, tokens, lexes, m, small, page) (same, (others, reads, (inr none, told))) =
     absurd (none m (subst (λ (l : List Token). IsSmall l m) (one bytes tokens others _ _ lexes reads).0 small))
 one_answer one bytes trees Memory h r = refl
 

@@ -9,8 +9,9 @@ use Rattle.ur_lexer.specs.Lexing.{Lexes, at_end, at_fault, Ending, TextsHaveOneR
 use Rattle.ur_lexer.specs.declared.fault.LexFault.{LexFault}
 use Rattle.ur_lexer.specs.declared.fault.LexFault.TheVariants as lexer
 use Rattle.page_server.specs.declared.refusal.ModuleFault.{ModuleFault}
-use Rattle.page_server.specs.declared.refusal.ModuleFault.TheVariants.{FileTooLong, NotUtf8, BadChar, OpenText, OpenComment, IntTooLarge, Syntax, TooDeep, NotBuilt, Memory}
-use Rattle.page_server.specs.Modules.{IsModule, IsRefused, lexical, unparsed, longest, ModulesHaveOneRefusal}
+use Rattle.page_server.specs.declared.refusal.ModuleFault.TheVariants.{FileTooLong, NotUtf8, BadChar, OpenText, OpenComment, IntTooLarge, Syntax, TooDeep, ManyTables, NotBuilt, OtherForm, Memory}
+use Rattle.page_server.proofs.OneTold.{one_told}
+use Rattle.page_server.specs.Modules.{IsModule, IsRefused, IsToldOf, lexical, unparsed, longest, ModulesHaveOneRefusal}
 
 -- the reasons for a refusal, by the layer that tells it
 data Reason (bytes : List ℕ) (fault : ModuleFault) : Type 0 where
@@ -18,7 +19,7 @@ data Reason (bytes : List ℕ) (fault : ModuleFault) : Type 0 where
   no_text : length bytes ≤ longest → (IsUtf8 bytes → ⊥) → fault ≡ NotUtf8 → Reason bytes fault
   unread : IsModule bytes → (told : LexFault) → (tokens : List Token) → Lexes bytes tokens (at_fault told) → fault ≡ lexical told → Reason bytes fault
   no_module : IsModule bytes → (told : ParseFault) → (tokens : List Token) → Lexes bytes tokens at_end → IsNoModule (record { items = tokens; end = length bytes }) told → fault ≡ unparsed told → Reason bytes fault
-  other : IsModule bytes → (tokens : List Token) → Lexes bytes tokens at_end → IsModuleText tokens → fault ≡ NotBuilt → Reason bytes fault
+  other : IsModule bytes → (tokens : List Token) → Lexes bytes tokens at_end → IsModuleText tokens → IsToldOf tokens fault → Reason bytes fault
   free : fault ≡ Memory → Reason bytes fault
 
 reason : (bytes : List ℕ) (fault : ModuleFault) → IsRefused bytes fault → Reason bytes fault
@@ -30,7 +31,9 @@ reason bytes (OpenComment at) (is, (tokens, fails)) = unread is (lexer.OpenComme
 reason bytes (IntTooLarge at) (is, (tokens, fails)) = unread is (lexer.IntTooLarge at) tokens fails refl
 reason bytes (Syntax at) (is, (tokens, reads, (small, told))) = no_module is (parser.Syntax at) tokens reads told refl
 reason bytes (TooDeep at) (is, (tokens, reads, (small, told))) = no_module is (parser.TooDeep at) tokens reads told refl
-reason bytes NotBuilt (is, (tokens, reads, (small, told))) = other is tokens reads told refl
+reason bytes ManyTables (is, (tokens, reads, (small, (tree, told)))) = other is tokens reads tree told
+reason bytes (NotBuilt at) (is, (tokens, reads, (small, (tree, told)))) = other is tokens reads tree told
+reason bytes OtherForm (is, (tokens, reads, (small, (tree, told)))) = other is tokens reads tree told
 reason bytes Memory h = free refl
 
 -- no reading ends both at the text's end and at a fault
@@ -87,7 +90,9 @@ beside one parses trees bytes fault again (other is tokens reads tree e) (unread
 beside one parses trees bytes fault again (other is tokens reads tree e) (no_module is' told' tokens' reads' none' e') =
     let same : tokens ≡ tokens' = (one bytes tokens tokens' _ _ reads reads').0 in
     inr (inl (e' ∙ ap unparsed (trees (record { items = tokens'; end = length bytes }) told' (tree.0, tree.1, tree.2 ∙ same) none')))
-beside one parses trees bytes fault again (other is tokens reads tree e) (other is' tokens' reads' tree' e') = inr (inr (e ∙ sym e'))
+beside one parses trees bytes fault again (other is tokens reads tree e) (other is' tokens' reads' tree' e') =
+    let same : tokens ≡ tokens' = (one bytes tokens tokens' _ _ reads reads').0 in
+    inr (inr (one_told tokens' fault again (subst (λ (l : List Token). IsToldOf l fault) same e) e'))
 
 pub one_module_refusal : TextsHaveOneReading → ModulesHaveOneFault → ModulesAreNotRefused → ModulesHaveOneRefusal
 one_module_refusal one parses trees bytes fault again h k = beside one parses trees bytes fault again (reason bytes fault h) (reason bytes again k)

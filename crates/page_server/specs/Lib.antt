@@ -1,3 +1,4 @@
 pub mod Lines
 pub mod Modules
 pub mod Top
+pub mod Words

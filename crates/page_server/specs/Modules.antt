@@ -1,5 +1,5 @@
 -- Which modules have a page, and which are refused.
-use Rattle.std.specs.Prelude.{◌≡◌, ℕ, ◌<◌, ◌≤◌, ◌⊎◌, List, length}
+use Rattle.std.specs.Prelude.{◌≡◌, ℕ, ◌<◌, ◌≤◌, ◌⊎◌, List, length, count_by, Some, None}
 use Rattle.std.specs.Str.{IsUtf8}
 use Rattle.surface_tree.specs.declared.token.Token.{Token}
 use Rattle.surface_tree.specs.TokenList.{TokenList}
@@ -12,8 +12,10 @@ use Rattle.ur_lexer.specs.declared.fault.LexFault.TheVariants as lexer
 use Rattle.ur_parser.specs.Small.{Module, IsSmall, IsNoSmall, longest as longest_small}
 use Rattle.ur_parser.specs.Pages.{page_of}
 use Rattle.ur_parser.specs.Sources.{IsModuleText, IsNoModule}
+use Rattle.unbuilt_forms.specs.Unbuilt.{IsFirstUnbuilt}
+use Rattle.site_build.specs.Tables.{is_table, most_tables}
 use Rattle.page_server.specs.declared.refusal.ModuleFault.{ModuleFault}
-use Rattle.page_server.specs.declared.refusal.ModuleFault.TheVariants.{FileTooLong, NotUtf8, BadChar, OpenText, OpenComment, IntTooLarge, Syntax, TooDeep, NotBuilt, Memory}
+use Rattle.page_server.specs.declared.refusal.ModuleFault.TheVariants.{FileTooLong, NotUtf8, BadChar, OpenText, OpenComment, IntTooLarge, Syntax, TooDeep, ManyTables, NotBuilt, OtherForm, Memory}
 
 -- a fault of the lexer as a refusal
 abbrev pub lexical : LexFault → ModuleFault
@@ -44,14 +46,21 @@ HasPage bytes trees =
     IsModule bytes × (length bytes ≤ longest_small) × (tokens : List Token) × Lexes bytes tokens at_end
     × (m : Module) × IsSmall tokens m × (trees ≡ page_of m)
 
+-- what is told of the tokens of a module that isn't of the small form: it declares too many tables, or else its first
+-- token of a form that isn't built yet, or else nothing
+abbrev pub IsToldOf : List Token → ModuleFault → Type 0
+IsToldOf tokens ManyTables = most_tables < count_by is_table tokens
+IsToldOf tokens (NotBuilt at) = (count_by is_table tokens ≤ most_tables) × IsFirstUnbuilt tokens (Some at)
+IsToldOf tokens OtherForm = (count_by is_table tokens ≤ most_tables) × IsFirstUnbuilt tokens None
+IsToldOf tokens _ = ⊥
+
 -- why tokens that aren't of the small form have no page: no module has them, as the parser tells, or they are those of
 -- another module
 abbrev pub IsOtherForm : TokenList → ModuleFault → Type 0
 IsOtherForm ts (Syntax at) = IsNoModule ts (parser.Syntax at)
 IsOtherForm ts (TooDeep at) = IsNoModule ts (parser.TooDeep at)
-IsOtherForm ts NotBuilt = IsModuleText ts.items
 IsOtherForm ts Memory = Unit {0}
-IsOtherForm ts _ = ⊥
+IsOtherForm ts fault = IsModuleText ts.items × IsToldOf ts.items fault
 
 -- the text is too long for the small form, or its tokens are of no module of it
 abbrev pub IsNotSmall : TokenList → Type 0
@@ -77,7 +86,9 @@ IsRefused bytes (OpenComment at) = IsModule bytes × IsTold bytes (lexer.OpenCom
 IsRefused bytes (IntTooLarge at) = IsModule bytes × IsTold bytes (lexer.IntTooLarge at)
 IsRefused bytes (Syntax at) = IsModule bytes × HasNoForm bytes (Syntax at)
 IsRefused bytes (TooDeep at) = IsModule bytes × HasNoForm bytes (TooDeep at)
-IsRefused bytes NotBuilt = IsModule bytes × HasNoForm bytes NotBuilt
+IsRefused bytes ManyTables = IsModule bytes × HasNoForm bytes ManyTables
+IsRefused bytes (NotBuilt at) = IsModule bytes × HasNoForm bytes (NotBuilt at)
+IsRefused bytes OtherForm = IsModule bytes × HasNoForm bytes OtherForm
 IsRefused bytes Memory = Unit {0}
 
 -- A module that has a page is refused for no reason but want of memory.

@@ -1,5 +1,5 @@
 -- What the top call promises.
-use Rattle.std.specs.Prelude.{◌≡◌, ℕ, List, [], ◌∷◌, codes, Option, Some, IfSome, ◌⊎◌}
+use Rattle.std.specs.Prelude.{◌≡◌, ℕ, true, List, Option, Some, None, IfSome, ◌⊎◌}
 use Rattle.std.specs.Io.KnownBytes.{Appends, IsAtEnd}
 use Rattle.xml_trees.specs.Trees.{Trees}
 use Rattle.xml_trees.specs.Written.{written}
@@ -7,36 +7,70 @@ use Rattle.xml_trees.specs.Grammar.{IsPage}
 use Rattle.page_bytes.specs.Pages.{WritesPage}
 use Rattle.ur_outside.specs.Whole.{AppendsFront}
 use Rattle.page_server.specs.declared.refusal.ModuleFault.{ModuleFault}
+use Rattle.page_server.specs.declared.refusal.ModuleFault.TheVariants.{OtherForm}
+use Rattle.site_build.specs.declared.fault.BuildFault.{BuildFault}
+use Rattle.site_build.specs.Lines.{line_of as line_of_build}
 use Rattle.page_server.specs.Lines.{line_of}
+use Rattle.page_server.specs.Words.{is_build, reads, for_page}
 use Rattle.page_server.specs.Modules.{HasPage, IsRefused}
 
 -- the one word `page`
 abbrev pub IsPageCommand : List (List ℕ) → Type 0
-IsPageCommand words = words ≡ codes "page" ∷ []
+IsPageCommand words = reads words ≡ Some for_page
 
--- The input was read to its end, it is a module that has a page, and the output grew by the text of that page.
--- `before` and `left` are what the input had and has left, `old` and `new` what the output held and holds.
+-- the word `check`, or the word `explicit`, and a folder
+abbrev pub IsBuildCommand : List (List ℕ) → Type 0
+IsBuildCommand words = is_build (reads words) ≡ true
+
+abbrev pub IsNoCommand : List (List ℕ) → Type 0
+IsNoCommand words = reads words ≡ None
+
+-- The bytes are a module's that isn't of the small form. What its page is, or why it has none, isn't said here.
+abbrev pub IsOther : List ℕ → Type 0
+IsOther input = IsRefused input OtherForm
+
+-- these trees may be the page of the module
+abbrev pub MayShow : List ℕ → Trees → Type 0
+MayShow input trees = HasPage input trees ⊎ IsOther input
+
+-- this line may refuse the module
+abbrev pub MayRefuse : List ℕ → List ℕ → Type 0
+MayRefuse input line =
+    ((fault : ModuleFault) × IsRefused input fault × (line_of fault ≡ Some line)) ⊎ IsOther input
+
+-- The input was read to its end, it is a module, and the output grew by the text of its page. `before` and `left` are
+-- what the input had and has left, `old` and `new` what the output held and holds.
 abbrev pub PageIsWritten : Option (List ℕ) → Option (List ℕ) → Option (List ℕ) → Option (List ℕ) → Type 0
 PageIsWritten before left old new =
-    IfSome before (λ input. IsAtEnd left × (trees : Trees) × HasPage input trees × WritesPage old new (written trees))
+    IfSome before (λ input. IsAtEnd left × (trees : Trees) × MayShow input trees × WritesPage old new (written trees))
 
--- The input is refused for this reason, and the output grew by its line.
+-- The input has no page, and the output grew by the line that says why.
 abbrev pub RefusalIsWritten : Option (List ℕ) → Option (List ℕ) → Option (List ℕ) → Type 0
 RefusalIsWritten before old new =
-    IfSome before (λ input. (fault : ModuleFault) × IsRefused input fault
-    × (line : List ℕ) × (line_of fault ≡ Some line) × Appends old new line)
+    IfSome before (λ input. (line : List ℕ) × MayRefuse input line × Appends old new line)
 
 -- The bytes are what the program answers to this input: the text of its page, or the line of its refusal.
 abbrev pub IsAnswer : List ℕ → List ℕ → Type 0
 IsAnswer input bytes =
-    ((trees : Trees) × HasPage input trees × IsPage bytes (written trees))
-    ⊎ ((fault : ModuleFault) × IsRefused input fault × (line_of fault ≡ Some bytes))
+    ((trees : Trees) × MayShow input trees × IsPage bytes (written trees)) ⊎ MayRefuse input bytes
 
 -- The output grew by a front of the answer to the input.
 abbrev pub FrontIsWritten : Option (List ℕ) → Option (List ℕ) → Option (List ℕ) → Type 0
 FrontIsWritten before old new = IfSome before (λ input. (answer : List ℕ) × IsAnswer input answer
     × AppendsFront old new answer)
 
--- the input is told, and is a module that has a page
+-- the input is told, and is a module of the small form that has a page
 abbrev pub IsToldPage : Option (List ℕ) → Type 0
 IsToldPage before = (input : List ℕ) × (before ≡ Some input) × (trees : Trees) × HasPage input trees
+
+-- A project isn't built, and the output grew by the line that says why.
+abbrev pub UnbuiltIsWritten : Option (List ℕ) → Option (List ℕ) → Type 0
+UnbuiltIsWritten old new =
+    (fault : BuildFault) × (line : List ℕ) × (line_of_build fault ≡ Some line) × Appends old new line
+
+-- the output grew by some text, or by a front of one
+abbrev pub SomeIsWritten : Option (List ℕ) → Option (List ℕ) → Type 0
+SomeIsWritten old new = (text : List ℕ) × Appends old new text
+
+abbrev pub SomeFrontIsWritten : Option (List ℕ) → Option (List ℕ) → Type 0
+SomeFrontIsWritten old new = (text : List ℕ) × AppendsFront old new text

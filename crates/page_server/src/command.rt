@@ -1,19 +1,24 @@
 //! The top call.
-ghost use Rattle.std.specs.Prelude.{◌≡◌, ◌≤◌, ◌<◌, ◌↔◌, ◌∷◌, [], ℕ, List, length, map, string_bytes, IfOk, OnOk, OnErr, IsErrOf, IsTrue, ◌⊎◌, Some};
+ghost use Rattle.std.specs.Prelude.{◌≡◌, ◌≤◌, ◌<◌, ℕ, List, map, string_bytes, false, ◌⊎◌, Some};
 ghost use Rattle.std.specs.Io.KnownBytes.{Appends, Keeps};
 ghost use Rattle.xml_trees.specs.Trees.{Trees, IsWhole, built, trees_of};
 ghost use Rattle.xml_trees.specs.Written.{written};
 ghost use Rattle.page_bytes.specs.Pages.{WritesPage, WritesFront};
 ghost use Rattle.ur_outside.specs.Causes.{Rose};
 ghost use Rattle.ur_outside.specs.Whole.{AppendsFront};
-ghost use Rattle.page_server.specs.Lines.{line_of, usage};
-ghost use Rattle.page_server.specs.Top.{IsPageCommand, PageIsWritten, RefusalIsWritten, FrontIsWritten, IsToldPage};
+ghost use Rattle.page_server.specs.Lines.{accepted, line_of, usage};
+ghost use Rattle.page_server.specs.Top.{FrontIsWritten, IsBuildCommand, IsNoCommand, IsPageCommand, IsToldPage, PageIsWritten, RefusalIsWritten, SomeFrontIsWritten, SomeIsWritten, UnbuiltIsWritten};
+ghost use Rattle.page_server.specs.Words.{for_check, reads};
 
 use crate::module::LONGEST;
+use crate::words::{Command, read_command};
 use crate::{ModuleFault, page_of};
 use page_bytes::write_page;
+use program_elaborator::Terms;
+use site_build::{BuildFault, NoPage, explicit_program, page_of_text};
 use std::alloc::{AllocError, Global};
-use ur_outside::{Failed, Joined, ReadFault, Sink, Source, read_up_to, write_all};
+use table_rows::Texts;
+use ur_outside::{Failed, Files, Joined, ReadFault, Sink, Source, read_up_to, write_all};
 use xml_trees::Page;
 
 /// How the program ends.
@@ -26,18 +31,10 @@ pub struct Ended {
 const USAGE: &[u8] =
     b"usage: urweb page | check DIR | explicit DIR | run DIR | serve DIR ADDR | load SEED\n";
 
+const ACCEPTED: &[u8] = b"accepted\n";
+
 /// One more than the most bytes that a module has, so that a longer one shows.
 const ENOUGH: usize = LONGEST + 1;
-
-/// Whether the words are this one alone.
-pub fn is_only_word(words: &[String], wanted: &str) -> bool
-    ensures { IsTrue result ↔ (map string_bytes words.now ≡ wanted.now ∷ []) }
-{
-    match words {
-        [word] => word.as_str() == wanted,
-        _ => false,
-    }
-}
 
 /// Ends with this status, unless the piece can't be written.
 fn end_with<O: Sink>(output: &mut O, piece: &[u8], status: u8) -> Ended
@@ -85,8 +82,36 @@ fn end_refused<O: Sink>(alloc: Global, output: &mut O, fault: &ModuleFault) -> E
     }
 }
 
+/// Ends with the page of a module that isn't of the small form, or with the line that says why it has none.
+fn end_other<T: Terms + Drop, O: Sink>(
+    alloc: Global,
+    terms: &T,
+    output: &mut O,
+    bytes: &[u8],
+) -> Ended
+    ensures range { (result.status ≤ 5) × ((result.status ≡ 2) ⊎ (result.status ≡ 3) → ⊥) }
+    ensures page { result.status ≡ 0
+        → (trees : Trees) × WritesPage (O.wrote output.old) (O.wrote output.new) (written trees) }
+    ensures refused { result.status ≡ 1 → SomeIsWritten (O.wrote output.old) (O.wrote output.new) }
+    ensures kept { result.status ≡ 5 → Keeps (O.wrote output.old) (O.wrote output.new) }
+    ensures front { result.status ≡ 4 → SomeFrontIsWritten (O.wrote output.old) (O.wrote output.new)
+        ⊎ (trees : Trees) × WritesFront (O.wrote output.old) (O.wrote output.new) (written trees) }
+    ensures failed { result.status ≡ 4 → Rose (O.faults output.old) (O.faults output.new) }
+{
+    match page_of_text(alloc, terms, bytes) {
+        Ok(page) => end_with_page(output, &page),
+        Err(NoPage::Told(line)) => end_with(output, line.as_bytes(), 1),
+        Err(NoPage::Memory) => Ended { status: 5 },
+    }
+}
+
 /// The command `page`.
-fn end_page<I: Source, O: Sink>(alloc: Global, input: &mut I, output: &mut O) -> Ended
+fn end_page<T: Terms + Drop, I: Source, O: Sink>(
+    alloc: Global,
+    terms: &T,
+    input: &mut I,
+    output: &mut O,
+) -> Ended
     ensures range { (result.status ≤ 5) × (result.status ≡ 2 → ⊥) }
     ensures page { result.status ≡ 0
         → PageIsWritten (I.left input.old) (I.left input.new) (O.wrote output.old) (O.wrote output.new) }
@@ -105,31 +130,104 @@ fn end_page<I: Source, O: Sink>(alloc: Global, input: &mut I, output: &mut O) ->
     };
     match page_of(alloc, &bytes) {
         Ok(page) => end_with_page(output, &page),
+        Err(ModuleFault::OtherForm) => end_other(alloc, terms, output, &bytes),
         Err(fault) => end_refused(alloc, output, &fault),
     }
 }
 
-/// Does all that the program does.
-pub fn top<I: Source, O: Sink>(alloc: Global, words: &[String], line: &mut Joined<I, O>) -> Ended
+/// Ends with the line that says why a project isn't built.
+fn end_unbuilt<O: Sink>(alloc: Global, output: &mut O, fault: &BuildFault) -> Ended
+    ensures written { result.status ≡ 1 → UnbuiltIsWritten (O.wrote output.old) (O.wrote output.new) }
+    ensures front { result.status ≡ 4 → SomeFrontIsWritten (O.wrote output.old) (O.wrote output.new) }
+    ensures kept { result.status ≡ 5 → Keeps (O.wrote output.old) (O.wrote output.new) }
+    ensures other { (result.status ≡ 1) ⊎ (result.status ≡ 4) ⊎ (result.status ≡ 5) }
+    ensures failed { result.status ≡ 4 → Rose (O.faults output.old) (O.faults output.new) }
+{
+    match fault.line(alloc) {
+        Ok(told) => end_with(output, told.as_bytes(), 1),
+        Err(AllocError) => Ended { status: 5 },
+    }
+}
+
+/// Ends with what is said of a project that was built: that it is accepted, or its explicit program.
+fn end_built<O: Sink>(output: &mut O, program: &str, explicit: bool) -> Ended
+    ensures accepted { explicit ≡ false → result.status ≡ 0
+        → Appends (O.wrote output.old) (O.wrote output.new) accepted }
+    ensures written { result.status ≡ 0 → SomeIsWritten (O.wrote output.old) (O.wrote output.new) }
+    ensures front { result.status ≡ 4 → SomeFrontIsWritten (O.wrote output.old) (O.wrote output.new) }
+    ensures other { (result.status ≡ 0) ⊎ (result.status ≡ 4) }
+    ensures failed { result.status ≡ 4 → Rose (O.faults output.old) (O.faults output.new) }
+{
+    if explicit {
+        end_with(output, program.as_bytes(), 0)
+    } else {
+        end_with(output, ACCEPTED, 0)
+    }
+}
+
+/// The commands `check` and `explicit`.
+fn end_build<T: Terms + Drop, F: Files, O: Sink>(
+    alloc: Global,
+    terms: &T,
+    files: &mut F,
+    output: &mut O,
+    dir: &str,
+    explicit: bool,
+) -> Ended
+    ensures range { (result.status ≤ 5) × (result.status ≡ 2 → ⊥) }
+    ensures accepted { explicit ≡ false → result.status ≡ 0
+        → Appends (O.wrote output.old) (O.wrote output.new) accepted }
+    ensures written { result.status ≡ 0 → SomeIsWritten (O.wrote output.old) (O.wrote output.new) }
+    ensures refused { result.status ≡ 1 → UnbuiltIsWritten (O.wrote output.old) (O.wrote output.new) }
+    ensures kept { (result.status ≡ 3) ⊎ (result.status ≡ 5) → Keeps (O.wrote output.old) (O.wrote output.new) }
+    ensures front { result.status ≡ 4 → SomeFrontIsWritten (O.wrote output.old) (O.wrote output.new) }
+    ensures told { F.told files.new ≡ F.told files.old }
+    ensures read_failed { result.status ≡ 3 → Rose (F.faults files.old) (F.faults files.new) }
+    ensures write_failed { result.status ≡ 4 → Rose (O.faults output.old) (O.faults output.new) }
+{
+    let objects = Texts::new(alloc);
+    match explicit_program(alloc, terms, files, dir, &objects) {
+        Ok(program) => end_built(output, program.as_str(), explicit),
+        Err(BuildFault::ReadFault) => Ended { status: 3 },
+        Err(fault) => end_unbuilt(alloc, output, &fault),
+    }
+}
+
+/// Does all that the program does, over any elaboration of terms: what it gives is checked.
+pub fn top<T: Terms + Drop, F: Files, I: Source, O: Sink>(
+    alloc: Global,
+    terms: &T,
+    words: &[String],
+    files: &mut F,
+    line: &mut Joined<I, O>,
+) -> Ended
     ensures range { result.status ≤ 5 }
 
-    // The input is a module that has a page, and that page was written.
-    ensures page { result.status ≡ 0 → PageIsWritten (I.left line.old.input) (I.left line.new.input)
+    // The input is a module, and its page was written; or why it has none.
+    ensures page { IsPageCommand (map string_bytes words.now) → result.status ≡ 0
+        → PageIsWritten (I.left line.old.input) (I.left line.new.input)
         (O.wrote line.old.output) (O.wrote line.new.output) }
-    ensures page_command { result.status ≡ 0 → IsPageCommand (map string_bytes words.now) }
+    ensures refused { IsPageCommand (map string_bytes words.now) → result.status ≡ 1
+        → RefusalIsWritten (I.left line.old.input) (O.wrote line.old.output) (O.wrote line.new.output) }
 
-    // The input has no page, and the line that says why was written.
-    ensures refused { result.status ≡ 1 → RefusalIsWritten (I.left line.old.input)
-        (O.wrote line.old.output) (O.wrote line.new.output) }
-    ensures refused_command { result.status ≡ 1 → IsPageCommand (map string_bytes words.now) }
+    // A project is accepted, and that was written, or its explicit program; or why it isn't built.
+    ensures accepted { (dir : List ℕ) → reads (map string_bytes words.now) ≡ Some (for_check dir)
+        → result.status ≡ 0 → Appends (O.wrote line.old.output) (O.wrote line.new.output) accepted }
+    ensures explicit { IsBuildCommand (map string_bytes words.now) → result.status ≡ 0
+        → SomeIsWritten (O.wrote line.old.output) (O.wrote line.new.output) }
+    ensures unbuilt { IsBuildCommand (map string_bytes words.now) → result.status ≡ 1
+        → UnbuiltIsWritten (O.wrote line.old.output) (O.wrote line.new.output) }
 
     // The words are no command.
     ensures usage { result.status ≡ 2 → Appends (O.wrote line.old.output) (O.wrote line.new.output) usage }
-    ensures no_command { result.status ≡ 2 → IsPageCommand (map string_bytes words.now) → ⊥ }
-    ensures command { (IsPageCommand (map string_bytes words.now) → ⊥) → (result.status ≡ 2) ⊎ (result.status ≡ 4) }
+    ensures no_command { result.status ≡ 2 → IsNoCommand (map string_bytes words.now) }
+    ensures command { IsNoCommand (map string_bytes words.now) → (result.status ≡ 2) ⊎ (result.status ≡ 4) }
 
     // Reading or writing failed.
-    ensures read_failed { result.status ≡ 3 → Rose (I.faults line.old.input) (I.faults line.new.input) }
+    ensures read_failed { IsPageCommand (map string_bytes words.now) → result.status ≡ 3
+        → Rose (I.faults line.old.input) (I.faults line.new.input) }
+    ensures files_failed { IsBuildCommand (map string_bytes words.now) → result.status ≡ 3
+        → Rose (F.faults files.old) (F.faults files.new) }
     ensures write_failed { result.status ≡ 4 → Rose (O.faults line.old.output) (O.faults line.new.output) }
 
     // What a failure leaves: nothing was written, or a front of the answer.
@@ -137,18 +235,23 @@ pub fn top<I: Source, O: Sink>(alloc: Global, words: &[String], line: &mut Joine
         → Keeps (O.wrote line.old.output) (O.wrote line.new.output) }
     ensures front { result.status ≡ 4 → IsPageCommand (map string_bytes words.now)
         → FrontIsWritten (I.left line.old.input) (O.wrote line.old.output) (O.wrote line.new.output) }
-    ensures usage_front { result.status ≡ 4 → (IsPageCommand (map string_bytes words.now) → ⊥)
+    ensures usage_front { result.status ≡ 4 → IsNoCommand (map string_bytes words.now)
         → AppendsFront (O.wrote line.old.output) (O.wrote line.new.output) usage }
 
-    // What has a page is written, unless the outside failed or memory ran out.
+    // No command changes what the files are, and only `page` reads the input.
+    ensures told { F.told files.new ≡ F.told files.old }
+    ensures unread { (IsPageCommand (map string_bytes words.now) → ⊥) → I.left line.new.input ≡ I.left line.old.input }
+
+    // What has a page by its small form is written, unless the outside failed or memory ran out.
     ensures complete { IsPageCommand (map string_bytes words.now) → IsToldPage (I.left line.old.input)
         → (Rose (I.faults line.old.input) (I.faults line.new.input) → ⊥)
         → (Rose (O.faults line.old.output) (O.faults line.new.output) → ⊥)
         → (result.status ≡ 0) ⊎ (result.status ≡ 5) }
 {
-    if is_only_word(words, "page") {
-        end_page(alloc, &mut line.input, &mut line.output)
-    } else {
-        end_with(&mut line.output, USAGE, 2)
+    match read_command(words) {
+        Some(Command::Page) => end_page(alloc, terms, &mut line.input, &mut line.output),
+        Some(Command::Check(dir)) => end_build(alloc, terms, files, &mut line.output, dir, false),
+        Some(Command::Explicit(dir)) => end_build(alloc, terms, files, &mut line.output, dir, true),
+        None => end_with(&mut line.output, USAGE, 2),
     }
 }

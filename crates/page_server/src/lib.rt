@@ -7,7 +7,9 @@ pub mod module;
 pub mod refusal;
 #[cfg(test)]
 mod tests;
+pub mod words;
 
-pub use command::{Ended, is_only_word, top};
+pub use command::{Ended, top};
 pub use module::page_of;
 pub use refusal::ModuleFault;
+pub use words::{Command, is_only_word, read_command};

@@ -3,12 +3,16 @@ ghost use Rattle.std.specs.Prelude.{◌≡◌, ◌<◌, ◌≤◌, ◌^◌, leng
 ghost use Rattle.xml_trees.specs.Trees.{Trees, IsWhole, Whole, built, trees_of};
 ghost use Rattle.ur_parser.specs.Small.{Module, IsSmall, longest as longest_small};
 ghost use Rattle.ur_parser.specs.Pages.{page_of as page_tree};
-ghost use Rattle.page_server.specs.Modules.{HasNoPage, HasPage, IsOtherForm, IsRefused};
+ghost use Rattle.page_server.specs.Modules.{HasNoPage, HasPage, IsOtherForm, IsRefused, IsToldOf};
 
 use crate::ModuleFault;
+use site_build::count_tables;
+use site_build::tables::MOST_TABLES;
 use std::alloc::Global;
 use std::str;
+use surface_grammar::Tree;
 use surface_tree::Tokens;
+use unbuilt_forms::first_unbuilt;
 use ur_lexer::laws::texts_have_one_reading;
 use ur_lexer::lex;
 use ur_parser::{SmallFault, parse, read_small};
@@ -17,13 +21,26 @@ use xml_trees::Page;
 /// The most bytes that a module has.
 pub const LONGEST: usize = 4194304;
 
+/// What is told of the tree of a module that isn't of the small form.
+fn told_of(tree: &Tree) -> ModuleFault
+    ensures { IsToldOf tree.now.leaves result }
+{
+    if count_tables(tree.leaves()) > MOST_TABLES {
+        return ModuleFault::ManyTables;
+    }
+    match first_unbuilt(tree) {
+        Some(at) => ModuleFault::NotBuilt { at },
+        None => ModuleFault::OtherForm,
+    }
+}
+
 /// Why tokens that are of no small module have no page: the grammar refuses them, or they are of another form.
 fn unbuilt(alloc: Global, tokens: &Tokens) -> ModuleFault
     requires { length tokens.now.items < 2 ^ 32 }
     ensures { IsOtherForm tokens.now result }
 {
     match parse(alloc, tokens) {
-        Ok(_tree) => ModuleFault::NotBuilt,
+        Ok(tree) => told_of(&tree),
         Err(fault) => ModuleFault::from(fault),
     }
 }

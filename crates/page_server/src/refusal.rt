@@ -34,9 +34,15 @@ pub enum ModuleFault {
     /// Only a module more than 200 levels deep has this token after those before it.
     #[error("what stands at byte {at} lies more than 200 levels deep")]
     TooDeep { at: u32 },
-    /// The module is of a form that isn't built yet.
-    #[error("the module is of a form that isn't built yet")]
-    NotBuilt,
+    /// The module declares more than 1,000 tables.
+    #[error("the module declares more than 1,000 tables")]
+    ManyTables,
+    /// The first token of a form that isn't built yet.
+    #[error("a form that isn't built yet stands at byte {at}")]
+    NotBuilt { at: u32 },
+    /// The module is of another form than the small one: what builds programs says whether it has a page.
+    #[error("the module isn't of the small form")]
+    OtherForm,
     /// Memory ran out.
     #[error("out of memory")]
     Memory,
@@ -97,7 +103,7 @@ fn line_whole(alloc: Global, name: &str) -> Result<String, AllocError>
 }
 
 impl ModuleFault {
-    /// The line that tells the refusal. Want of memory has none, and answers so.
+    /// The line that tells the refusal. Another form and want of memory have none, and answer want of memory.
     pub fn line(&self, alloc: Global) -> Result<String, AllocError>
         ensures { IfOk result (λ line. line_of self.now ≡ Some (string_bytes line)) }
     {
@@ -110,7 +116,9 @@ impl ModuleFault {
             ModuleFault::IntTooLarge { at } => line_at(alloc, *at, "IntTooLarge"),
             ModuleFault::Syntax { at } => line_at(alloc, *at, "Syntax"),
             ModuleFault::TooDeep { at } => line_at(alloc, *at, "TooDeep"),
-            ModuleFault::NotBuilt => line_whole(alloc, "NotBuilt"),
+            ModuleFault::ManyTables => line_at(alloc, 0, "BadProject"),
+            ModuleFault::NotBuilt { at } => line_at(alloc, *at, "NotBuilt"),
+            ModuleFault::OtherForm => Err(AllocError),
             ModuleFault::Memory => Err(AllocError),
         }
     }

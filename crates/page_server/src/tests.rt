@@ -1,11 +1,43 @@
 //! Whole runs over an input and an output in memory.
 use crate::top;
+use con_terms::con::Con;
+use name_scopes::ElabFault;
+use program_elaborator::terms::Env;
+use program_elaborator::{Terms, TypedTerm};
 use std::alloc::{AllocError, Global};
-use ur_outside::{Joined, MemSink, MemSource};
+use table_rows::{Bytes, Text};
+use ur_outside::{Joined, MemFile, MemFiles, MemSink, MemSource};
 
 const MODULE: &[u8] = b"fun main () = return <xml><body></body></xml>";
 
 const PAGE: &[u8] = b"<!DOCTYPE html><html><body></body></html>";
+
+/// No inference: these runs end before it.
+#[derive(Drop)]
+struct NoTerms {}
+
+impl Terms for NoTerms {
+    fn term(
+        &self,
+        _: Global,
+        _: &Env,
+        _: Option<&Con>,
+        _: &plain_tree::Exp,
+        _: u32,
+    ) -> Result<TypedTerm, ElabFault> {
+        Err(ElabFault::Memory)
+    }
+
+    fn signature(
+        &self,
+        _: Global,
+        _: &Env,
+        _: &plain_tree::Exp,
+        _: u32,
+    ) -> Result<Option<Con>, ElabFault> {
+        Err(ElabFault::Memory)
+    }
+}
 
 /// How the outside behaves: how much a call moves at most, and which calls fail.
 #[derive(Drop)]
@@ -31,7 +63,8 @@ fn run(alloc: Global, input: &[u8], outside: &Outside<'_>) -> Result<(u8, Vec<u8
             outside.failing_writes.to_vec(alloc)?,
         ),
     };
-    let ended = top(alloc, &words, &mut line);
+    let mut files = MemFiles::new(Vec::new(alloc), Vec::new(alloc));
+    let ended = top(alloc, &NoTerms {}, &words, &mut files, &mut line);
     Ok((ended.status, line.output.written().to_vec(alloc)?))
 }
 
@@ -85,5 +118,37 @@ fn refusals(rt: HostRuntime) -> Result<(), AllocError> {
     let (status, output) = run(rt.alloc(), b"val x = \"a", &honest(9))?;
     assert_eq!(rt; status, 1);
     assert!(rt; output.as_slice() == b"Main.ur:8: OpenText\n".as_slice());
+    Ok(())
+}
+
+/// A run of `check` over a project whose module is this: its status and its output.
+fn check(alloc: Global, module: &[u8], failing_reads: &[u64]) -> Result<(u8, Vec<u8>), AllocError> {
+    let words = vec![in alloc; "check".to_string(alloc)?, "p".to_string(alloc)?]?;
+    let mut files = Vec::new(alloc);
+    files.push(MemFile {
+        path: Text::of(alloc, "p/p.urp")?,
+        bytes: Bytes::of(alloc, b"\nmain\n")?,
+    })?;
+    files.push(MemFile {
+        path: Text::of(alloc, "p/main.ur")?,
+        bytes: Bytes::of(alloc, module)?,
+    })?;
+    let mut files = MemFiles::new(files, failing_reads.to_vec(alloc)?);
+    let mut line = Joined {
+        input: MemSource::new(Vec::new(alloc), 1, Vec::new(alloc)),
+        output: MemSink::new(alloc, 9, Vec::new(alloc)),
+    };
+    let ended = top(alloc, &NoTerms {}, &words, &mut files, &mut line);
+    Ok((ended.status, line.output.written().to_vec(alloc)?))
+}
+
+#[test]
+fn projects_are_checked(rt: HostRuntime) -> Result<(), AllocError> {
+    let (status, output) = check(rt.alloc(), b"val x = ?", &[])?;
+    assert_eq!(rt; status, 1);
+    assert!(rt; output.as_slice() == b"main.ur:8: BadChar\n".as_slice());
+    let (status, output) = check(rt.alloc(), b"val x = ?", &[2])?;
+    assert_eq!(rt; status, 3);
+    assert!(rt; output.is_empty());
     Ok(())
 }

@@ -89,12 +89,22 @@ impl StdFiles {
     }
 }
 
-/// Whether a path is that of a file. What isn't there is none.
+/// Whether a path is that of a file. What isn't there is none, nor is a link that leads to nothing.
 fn is_file(rt: &HostRuntime, path: &str) -> Result<bool, Error> {
     match fs::metadata(rt, path) {
         Ok(found) => Ok(found.is_file()),
-        Err(fault) if fault.kind() == ErrorKind::NotFound => Ok(false),
-        Err(fault) => Err(fault),
+        Err(fault) => match fault.kind() {
+            ErrorKind::NotFound | ErrorKind::NotADirectory => Ok(false),
+            _ => Err(fault),
+        },
+    }
+}
+
+/// Whether a path is that of a pipe, a socket or a device, which is no file of a project: to open it may wait for ever.
+fn is_special(rt: &HostRuntime, path: &str) -> bool {
+    match fs::metadata(rt, path) {
+        Ok(found) => !found.is_file() && !found.is_dir(),
+        Err(_) => false,
     }
 }
 
@@ -122,6 +132,9 @@ impl Files for StdFiles {
     ghost faults = { λ s. s.faults };
 
     fn read_file(&mut self, alloc: Global, path: &str, most: usize) -> Result<Held, FileFault> {
+        if is_special(&self.rt, path) {
+            return Err(FileFault::Missing);
+        }
         match fs::open(&self.rt, path) {
             Ok(file) => self.read_opened(alloc, file, most),
             Err(fault) => Err(self.fault_of(fault.kind())),

@@ -7,15 +7,17 @@ const HELP: &str = "urweb: pages from Ur/Web modules, by a proved program
 
 usage: urweb COMMAND
 
-  urweb page        reads a module on standard input, and writes the page of its `main`
-                    to standard output: ./urweb page < examples/greeting.ur > greeting.html
+  urweb page          reads a module on standard input, and writes the page of its `main`
+                      to standard output: ./urweb page < examples/greeting.ur > greeting.html
+  urweb check DIR     reads the project in the folder DIR, and writes `accepted`
+  urweb explicit DIR  reads the project, and writes its program with all that was inferred
 
-  urweb --help      this text
-  urweb --version   the program's version
+  urweb --help        this text
+  urweb --version     the program's version
 
-The other commands of the usage line (check, explicit, run, serve, load) aren't built yet.
+The other commands of the usage line (run, serve, load) aren't built yet.
 
-Status: 0 done; 1 the module is refused, and one line on standard output says why and at which byte;
+Status: 0 done; 1 refused, and one line on standard output says why, in which file and at which byte;
 2 the words name no command; 3 reading failed; 4 writing failed; 5 no memory.
 Standard error tells the same for a person: the line and the column, with the line itself and a mark.
 ";

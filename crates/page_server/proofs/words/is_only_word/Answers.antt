@@ -1,8 +1,8 @@
 use Rattle.std.proofs.Common.{ℕ, List, ap, ◌∙◌, string_bytes}
 use Rattle.std.specs.Prelude.{nat_eq}
 use Rattle.std.specs.Cmp.Lexicographic.{pointwise}
-use Rattle.page_server.proofs.Words.{one_word}
-use Rattle.page_server.proofs.command.is_only_word.Goals as goal
+use Rattle.page_server.proofs.OneWord.{one_word}
+use Rattle.page_server.proofs.words.is_only_word.Goals as goal
 
 pub returns-in-len1 : goal.returns-in-len1
 returns-in-len1 c =
