@@ -2,7 +2,8 @@
 ghost use Rattle.std.specs.Prelude.{IfSome, option_map};
 ghost use Rattle.told_places.specs.Refusals.{IsRead};
 
-use crate::sentence::sentence_of;
+use crate::sentence::{SENTENCE_OF_LINE, sentence_of, sentence_of_project};
+use crate::spot::Spot;
 use crate::{tell_at, tell_whole};
 use std::alloc::{AllocError, Global};
 use std::str;
@@ -45,12 +46,8 @@ fn text_of(bytes: &[u8]) -> &str {
     }
 }
 
-/// What a person is told of a refusal, over the bytes of its file.
-pub fn tell_refusal(
-    alloc: Global,
-    refusal: &Refusal<'_>,
-    bytes: &[u8],
-) -> Result<String, AllocError> {
+/// What a person is told of a refusal at a byte of its file.
+fn tell_text(alloc: Global, refusal: &Refusal<'_>, bytes: &[u8]) -> Result<String, AllocError> {
     let text = text_of(bytes);
     let at = match refusal.at {
         Some(at) => at.parse::<usize>().ok(),
@@ -59,9 +56,45 @@ pub fn tell_refusal(
     };
     match at {
         Some(at) if text.is_char_boundary(at) => {
-            let sentence = sentence_of(refusal.name, &text[at..], at);
-            tell_at(alloc, refusal.file, text, at, sentence)
+            let spot = Spot {
+                file: refusal.file,
+                before: &text[..at],
+                rest: &text[at..],
+            };
+            let sentence = sentence_of(alloc, refusal.name, &spot)?;
+            tell_at(alloc, refusal.file, text, at, sentence.as_str())
         }
-        _ => tell_whole(alloc, refusal.file, sentence_of(refusal.name, "", 0)),
+        _ => {
+            let spot = Spot {
+                file: refusal.file,
+                before: "",
+                rest: "",
+            };
+            let sentence = sentence_of(alloc, refusal.name, &spot)?;
+            tell_whole(alloc, refusal.file, sentence.as_str())
+        }
+    }
+}
+
+/// What a person is told of a line of a project file, counted from 1; 0 is the folder itself.
+fn tell_project(alloc: Global, refusal: &Refusal<'_>, line: &str) -> Result<String, AllocError> {
+    if line == "0" {
+        return tell_whole(alloc, refusal.file, sentence_of_project(refusal.file));
+    }
+    let mut file = refusal.file.to_string(alloc)?;
+    file.push_str(":")?;
+    file.push_str(line)?;
+    tell_whole(alloc, file.as_str(), SENTENCE_OF_LINE)
+}
+
+/// What a person is told of a refusal, over the bytes of its file.
+pub fn tell_refusal(
+    alloc: Global,
+    refusal: &Refusal<'_>,
+    bytes: &[u8],
+) -> Result<String, AllocError> {
+    match refusal.at {
+        Some(line) if refusal.name == "BadProject" => tell_project(alloc, refusal, line),
+        _ => tell_text(alloc, refusal, bytes),
     }
 }

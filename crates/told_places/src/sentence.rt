@@ -1,34 +1,154 @@
 //! The sentences that tell a refusal in plain words.
+use crate::missing::{inexhaustive, instance_sentence, unsolved};
+use crate::names::unbound;
+use crate::scan::{Form, innermost};
+use crate::spot::{Spot, said, word_of};
+use crate::syntax::{lacking, syntax_sentence};
+use crate::types::{kind_mismatch, mismatch};
+use std::alloc::{AllocError, Global};
 
-/// A refusal in plain words. `rest` is the text from its place on, and `at` the place.
-pub(crate) fn sentence_of(name: &str, rest: &str, at: usize) -> &'static str {
+/// A refusal in plain words. `told` is its name with the words that follow it, and `spot` its place.
+pub(crate) fn sentence_of(
+    alloc: Global,
+    told: &str,
+    spot: &Spot<'_>,
+) -> Result<String, AllocError> {
+    let (name, words) = told.split_once(' ').unwrap_or((told, ""));
+    match name {
+        "Syntax" => syntax_sentence(alloc, spot),
+        "BadChar" => bad_character(alloc, spot),
+        "Mismatch" => mismatch(alloc, words, spot),
+        "KindMismatch" => kind_mismatch(alloc, words),
+        "Unbound" => unbound(alloc, words, spot),
+        "Inexhaustive" => inexhaustive(alloc, words, spot),
+        "Unsolved" => unsolved(alloc, spot),
+        _ => sentence_with_name(alloc, name, words, spot),
+    }
+}
+
+/// A refusal that may name something, and needs no more of the text.
+fn sentence_with_name(
+    alloc: Global,
+    name: &str,
+    words: &str,
+    spot: &Spot<'_>,
+) -> Result<String, AllocError> {
+    match name {
+        "NotDisjoint" => {
+            said(
+                alloc,
+                &[
+                    "these may be one field: ",
+                    words,
+                    ": rows that are put together may share none",
+                ],
+            )
+        }
+        "Redeclared" => said(
+            alloc,
+            &["this is the second ", words, ": give it another name"],
+        ),
+        _ => said(alloc, &[plain_sentence(name, spot)]),
+    }
+}
+
+/// A refusal that names nothing.
+fn plain_sentence(name: &str, spot: &Spot<'_>) -> &'static str {
+    match name {
+        "FileTooLong" | "NotUtf8" | "OpenText" | "OpenComment" | "IntTooLarge" => of_text(name),
+        "NotBuilt" => "this can be read, but isn't built yet (README.md says what is)",
+        "MissingFile" => "the project names this module, but there is no such file",
+        "TooDeep" => too_deep(spot.rest),
+        "NoInstance" => instance_sentence(spot.rest),
+        "NotSerialisable" => not_serialisable(spot.rest),
+        _ => of_types(name),
+    }
+}
+
+/// Refusals of a text.
+fn of_text(name: &str) -> &'static str {
     match name {
         "FileTooLong" => "this is longer than 4194304 bytes, the most that a module may have",
         "NotUtf8" => "from here on the bytes aren't UTF-8: save the file as UTF-8",
-        "BadChar" => bad_character(rest, at),
         "OpenText" => "the string that begins here has no closing quote",
         "OpenComment" => "the comment that begins here isn't closed by a *)",
-        "IntTooLarge" => "this number is larger than 9223372036854775807, the largest one",
-        "Syntax" if rest.is_empty() => "the module ends here, but something has to follow",
-        "Syntax" => "no module has this at this place: docs/LANGUAGE.md shows each form",
-        "TooDeep" => "this lies more than 200 levels deep: make functions of its parts",
-        "NotBuilt" =>
-            "this can be read, but page makes pages of the small form alone so far (README.md)",
+        _ => "this number is larger than 9223372036854775807, the largest one",
+    }
+}
+
+/// What lies too deep, by what stands where it does.
+fn too_deep(rest: &str) -> &'static str {
+    if rest.starts_with("::") {
+        "a list has at most 200 items in one term: make functions of its parts"
+    } else {
+        "this lies more than 200 levels deep (each ; and :: is one): make functions of its parts"
+    }
+}
+
+/// What can't travel, by what stands at its place: the attribute.
+fn not_serialisable(rest: &str) -> &'static str {
+    if word_of(rest) == "action" {
+        "an action takes just the form's fields, and values that travel: int, string, bool, datatypes .."
+    } else {
+        "this can't travel in an address: int, string, bool, unit, records and datatypes can"
+    }
+}
+
+/// What is told of a line of a project file that may not stand there.
+pub(crate) const SENTENCE_OF_LINE: &str =
+    "a project file may not have this line, or lacks one here: directives, an empty line, modules";
+
+/// What is told of a project without a project file, or of a module alone that stands for one.
+pub(crate) fn sentence_of_project(file: &str) -> &'static str {
+    if file.ends_with(".ur") {
+        "this is no project's folder (a module alone is read so: urweb page < FILE), or has over 1000 tables"
+    } else {
+        "this is no project: a folder with exactly one .urp file (README.md shows one)"
+    }
+}
+
+/// Refusals of types.
+fn of_types(name: &str) -> &'static str {
+    match name {
+        "LinkNotCall" =>
+            "a link or an action is a call of a top-level function, with its arguments",
+        "TooLarge" => "comparing the types here takes too many steps: make them smaller",
+        "NoFolder" => "the fields of this row aren't known here: take a folder as a parameter",
         _ => "this is refused",
     }
 }
 
 /// Why nothing that can be read begins here.
-fn bad_character(rest: &str, at: usize) -> &'static str {
-    if at == 0 && rest.starts_with('\u{feff}') {
+fn bad_character(alloc: Global, spot: &Spot<'_>) -> Result<String, AllocError> {
+    let open = innermost(alloc, spot.before)?;
+    if open.form == Form::Tag {
+        return lacking(alloc, spot, open);
+    }
+    said(alloc, &[plain_character(spot, open.form)])
+}
+
+/// Why nothing that can be read begins here, by the character and by what is open.
+fn plain_character(spot: &Spot<'_>, form: Form) -> &'static str {
+    if spot.before.is_empty() && spot.rest.starts_with('\u{feff}') {
         "the file begins with a byte order mark: save it as UTF-8 without one"
-    } else if rest.starts_with('&') {
+    } else if spot.rest.starts_with('&') {
         "no character has this name: write &amp; where a plain & is meant"
-    } else if rest.starts_with('<') {
+    } else if spot.rest.starts_with('<') {
         "no tag begins like this: write &lt; where a plain < is meant"
-    } else if rest.starts_with('\\') {
-        "a string has no escape that begins like this: write \\\\ where a plain \\ is meant"
+    } else if spot.rest.starts_with('\\') {
+        backslash(form)
+    } else if spot.rest.starts_with('\'') {
+        "nothing begins with this quote: a string stands in double quotes"
     } else {
         "no word, number, string or sign begins like this"
+    }
+}
+
+/// A backslash that nothing begins with.
+fn backslash(form: Form) -> &'static str {
+    if form == Form::Text {
+        "a string has no escape that begins like this: write \\\\ where a plain \\ is meant"
+    } else {
+        "a \\ stands in strings alone: a function is written fn x => e"
     }
 }
