@@ -1,8 +1,8 @@
 #!/usr/bin/env bash
-# Tries the wrong bodies of crates whose proofs are dear: those in crates/NAME/must-fail-by-hand, which ./test leaves out, since the
-# crate is proved once more for them.
+# Tries the wrong bodies of crates whose proofs are dear, or that have stood unchanged for long: those in
+# crates/NAME/must-fail-by-hand, which ./test leaves out, since the crate is proved once more for them.
 #
-# usage: tests/by_hand.sh [NAME..]     with no name, all of them: well over an hour of a processor, and more where the
+# usage: tests/by_hand.sh [NAME..]     with no name, all of them: several hours of a processor, and more where the
 # libraries below aren't built
 #
 # It works on a copy, and leaves nothing behind. The status is that of `rt must-fail`.

@@ -1,10 +1,12 @@
 #!/usr/bin/env python3
-"""Runs each module of a document through the built program: a block fenced as ```ur must be read, page or not."""
+"""Runs each module of a document through the built program: a block fenced as ```ur must be read, page or not.
+
+It is read where it has a page, or is refused for another reason than those of the lexer and the parser."""
 import re
 import subprocess
 import sys
 
-READ = b"Main.ur: NotBuilt\n"
+UNREAD = re.compile(rb"Main\.ur(:\d+)?: (FileTooLong|NotUtf8|BadChar|OpenText|OpenComment|IntTooLarge|Syntax|TooDeep)\n")
 
 
 def modules_of(path):
@@ -16,7 +18,7 @@ def main(program, path):
     modules, failed = modules_of(path), 0
     for number, text in enumerate(modules, 1):
         ran = subprocess.run([program, "page"], input=text.encode("utf-8"), capture_output=True, timeout=60)
-        if ran.returncode and ran.stdout != READ:
+        if ran.returncode not in (0, 1) or UNREAD.fullmatch(ran.stdout):
             failed += 1
             print(f"block {number} of {path}: {ran.stdout!r}")
     if not modules:

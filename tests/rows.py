@@ -6,13 +6,26 @@ and what it must write, byte for byte, and `errors` is what it must tell on stan
 `input.parts` or `output.parts`, for long texts: each line is a number and a JSON string, and the text is each string so many
 times, one after the other. No file: nothing; but with no `errors` a status above 0 must tell something, and 0 nothing.
 `status` is the exit status; no file: 0. With a file `input_fails` standard input is a folder, so that reading fails; with a
-file `output_fails` standard output is a device that is full, so that writing fails.
+file `output_fails` standard output is a device that is full, so that writing fails. With a folder `data` the program runs in
+a copy of it, in which a file `NAME.parts` is the file `NAME` that its parts stand for.
 """
 import contextlib
 import json
 import os
+import shutil
 import subprocess
 import sys
+import tempfile
+
+
+def parts_of(path):
+    """The bytes that a file of parts stands for."""
+    made = []
+    with open(path, encoding="utf-8") as it:
+        for line in it.read().splitlines():
+            times, text = line.split(" ", 1)
+            made.append(json.loads(text).encode("utf-8") * int(times))
+    return b"".join(made)
 
 
 def text_of(folder, name):
@@ -20,13 +33,24 @@ def text_of(folder, name):
     if os.path.isfile(f"{folder}/{name}"):
         with open(f"{folder}/{name}", "rb") as it:
             return it.read()
-    made = []
     if os.path.isfile(f"{folder}/{name}.parts"):
-        with open(f"{folder}/{name}.parts", encoding="utf-8") as it:
-            for line in it.read().splitlines():
-                times, text = line.split(" ", 1)
-                made.append(json.loads(text).encode("utf-8") * int(times))
-    return b"".join(made)
+        return parts_of(f"{folder}/{name}.parts")
+    return b""
+
+
+def data_of(folder, opened):
+    """The folder in which the program runs: a copy of the row's `data`, or None where it has none."""
+    if not os.path.isdir(f"{folder}/data"):
+        return None
+    made = opened.enter_context(tempfile.TemporaryDirectory())
+    shutil.copytree(f"{folder}/data", made, dirs_exist_ok=True)
+    for at, _, names in os.walk(made):
+        for name in names:
+            if name.endswith(".parts"):
+                with open(f"{at}/{name[:-len('.parts')]}", "wb") as it:
+                    it.write(parts_of(f"{at}/{name}"))
+                os.remove(f"{at}/{name}")
+    return made
 
 
 def words_of(folder):
@@ -62,7 +86,9 @@ def fault_of(program, folder):
         out = subprocess.PIPE
         if os.path.isfile(f"{folder}/output_fails"):
             out = opened.enter_context(open("/dev/full", "wb"))
-        ran = subprocess.run([program.encode(), *words_of(folder)], stdout=out, stderr=subprocess.PIPE, timeout=60, **given)
+        words = [os.path.abspath(program).encode(), *words_of(folder)]
+        within = data_of(folder, opened)
+        ran = subprocess.run(words, stdout=out, stderr=subprocess.PIPE, timeout=60, cwd=within, **given)
     wrote = ran.stdout or b""
     if ran.returncode != status_of(folder):
         return f"ended with status {ran.returncode} in place of {status_of(folder)}, and wrote {wrote[:300]!r}"

@@ -1,0 +1,2 @@
+val main : unit -> transaction page
+val rules : unit -> transaction page

@@ -1,0 +1,114 @@
+#!/usr/bin/env python3
+"""Runs programs that are written down with what they must give, through the built program.
+
+A file `*.shown` has a line for each program, `TERM ==> ANSWER`: the module's page shows the term. In a file `*.whole` a program
+is a module between a line `=== NAME` and a line `--- ANSWER`. An answer is
+    = TEXT      the page whose body holds this markup
+    ~ TEXT      this output, status 0
+    ! LINE      this line, status 1
+    @ LINE      as `!`, where a place in the line counts from the first byte of the term of a `.shown` line
+A word in brackets behind the name tells the command: `[check]` and `[explicit]` run over a folder with the module as `main.ur`,
+and `\\n` in the answer is then a line feed. The answers are written from the rules of the language, never from the program.
+"""
+import glob
+import os
+import re
+import subprocess
+import sys
+import tempfile
+
+BEFORE = "fun main () : transaction page = return <xml><body>{["
+BEHIND = "]}</body></xml>"
+
+
+class Program:
+    """A program and what it must give."""
+
+    def __init__(self, where, text, answer, command="page", offset=0):
+        self.where, self.text, self.command = where, text, command
+        mark, _, rest = answer.partition(" ")
+        rest = rest.replace("\\n", "\n")
+        if mark not in ("=", "~", "!", "@"):
+            raise ValueError(f"{where}: no answer: {answer}")
+        self.status = 0 if mark in "=~" else 1
+        if mark == "=":
+            self.wanted = f"<!DOCTYPE html><html><body>{rest}</body></html>"
+        elif mark == "~":
+            self.wanted = rest
+        elif mark == "!":
+            self.wanted = f"{rest}\n"
+        else:
+            self.wanted = re.sub(r":(\d+):", lambda it: f":{int(it[1]) + offset}:", rest, count=1) + "\n"
+
+    def fault(self, program):
+        """What differs, or None."""
+        with tempfile.TemporaryDirectory() as room:
+            words, given = [program, self.command], self.text.encode()
+            if self.command != "page":
+                folder = f"{room}/site"
+                os.mkdir(folder)
+                with open(f"{folder}/site.urp", "w", encoding="utf-8") as it:
+                    it.write("\nmain\n")
+                with open(f"{folder}/main.ur", "wb") as it:
+                    it.write(given)
+                words, given = [*words, folder], b""
+            ran = subprocess.run(words, input=given, capture_output=True, timeout=60)
+        wrote = ran.stdout.decode("utf-8", "replace")
+        wrote = re.sub(r"^main\.ur:", "Main.ur:", wrote) if self.command != "page" else wrote
+        if ran.returncode != self.status or wrote != self.wanted:
+            return f"status {ran.returncode}, wrote {wrote[:400]!r} in place of {self.wanted[:400]!r}"
+        if bool(ran.stderr) != bool(ran.returncode):
+            return f"told {ran.stderr[:200]!r}"
+        return None
+
+
+def shown(path):
+    """The programs of a file of terms."""
+    with open(path, encoding="utf-8") as it:
+        for number, line in enumerate(it, 1):
+            line = line.rstrip("\n")
+            if line and not line.startswith("#"):
+                term, _, answer = line.rpartition(" ==> ")
+                yield Program(f"{path}:{number}", BEFORE + term + BEHIND, answer, offset=len(BEFORE))
+
+
+def whole(path):
+    """The programs of a file of modules."""
+    name, command, lines = None, "page", []
+    with open(path, encoding="utf-8") as it:
+        for line in it:
+            if line.startswith("=== "):
+                found = re.match(r"=== (.*?)(?: \[(\w+)\])?$", line.rstrip("\n"))
+                name, command, lines = found[1], found[2] or "page", []
+            elif line.startswith("--- ") and name:
+                text = "".join(lines)
+                yield Program(f"{path}: {name}", text[:-1] if text.endswith("\n") else text, line[4:].rstrip("\n"), command)
+                name = None
+            elif name:
+                lines.append(line)
+
+
+def main(program, folder):
+    """Runs each program, and tells which fail."""
+    program = os.path.abspath(program)
+    done, failed = 0, 0
+    for path in sorted(glob.glob(f"{folder}/*")):
+        read = shown if path.endswith(".shown") else whole if path.endswith(".whole") else None
+        for it in read(path) if read else ():
+            done += 1
+            try:
+                fault = it.fault(program)
+            except (OSError, subprocess.SubprocessError) as why:
+                fault = str(why)
+            if fault:
+                failed += 1
+                print(f"program {it.where}: {fault}")
+    if not done:
+        failed = 1
+        print(f"no program stands in {folder}")
+    print(f"{done - min(failed, done)} programs as written, {failed} not")
+    return 1 if failed else 0
+
+
+if __name__ == "__main__":
+    sys.exit(main(*sys.argv[1:]))

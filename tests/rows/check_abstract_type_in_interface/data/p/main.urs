@@ -1,0 +1,2 @@
+val main : unit -> transaction page
+type t

@@ -1,0 +1,2 @@
+datatype color = Red | Mixed of int
+val c = Red

@@ -1,0 +1,3 @@
+datatype t = X
+val a : A.t = A.X
+val b : t = X

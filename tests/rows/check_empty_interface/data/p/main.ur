@@ -1,0 +1,2 @@
+val z = A.x
+fun main () : transaction page = return <xml><body/></xml>

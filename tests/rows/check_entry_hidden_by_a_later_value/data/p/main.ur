@@ -1,0 +1,3 @@
+fun f () : transaction page = return <xml/>
+val f = 1
+fun main () : transaction page = return <xml><body/></xml>

@@ -1,0 +1,2 @@
+datatype color = Red
+val t = show Red

@@ -1,0 +1,1 @@
+val s : show A.color = mkShow (fn (c : A.color) => "r")

@@ -1,0 +1,2 @@
+datatype color = Red
+val s : show color = mkShow (fn (c : color) => "r")

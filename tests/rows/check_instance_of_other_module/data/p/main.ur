@@ -1,0 +1,2 @@
+val t = show A.Red
+fun main () : transaction page = return <xml><body/></xml>

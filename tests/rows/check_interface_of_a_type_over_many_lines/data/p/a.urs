@@ -1,0 +1,2 @@
+val f : t ::: Type -> (t -> t) -> [[A] ~ [B]] => {A : t}
+val g : $)

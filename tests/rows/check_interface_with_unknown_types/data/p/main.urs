@@ -1,0 +1,1 @@
+val main : nowhere -> M.nothing

@@ -1,0 +1,1 @@
+fun f (c : A.color) : int = case c of A.Red => 0

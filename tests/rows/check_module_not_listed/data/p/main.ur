@@ -1,0 +1,1 @@
+val y = A.x val z = B.x

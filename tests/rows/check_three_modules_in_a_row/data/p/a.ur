@@ -1,0 +1,2 @@
+type t = int
+fun f (x : t) : t = x

@@ -1,0 +1,2 @@
+datatype t = X
+val a : A.t = X

@@ -1,0 +1,1 @@
+con t :: Type

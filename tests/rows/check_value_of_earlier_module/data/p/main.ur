@@ -1,0 +1,2 @@
+val y : int = A.x + 1
+fun main () : transaction page = return <xml><body/></xml>

@@ -1,0 +1,2 @@
+val x = 1
+fun main () : transaction page = return <xml><body/></xml>

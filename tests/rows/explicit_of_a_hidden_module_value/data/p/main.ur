@@ -1,0 +1,2 @@
+val x = A.x
+val y = (x, A.x)

@@ -1,0 +1,2 @@
+val y = A.x + 1
+val z = A.id "a"

@@ -1,0 +1,3 @@
+datatype color = Red | Mixed of int
+type pair = int * int
+con row = [A = int]
