@@ -1,6 +1,6 @@
 -- What is still to be done for a page, with one thing more.
-use Rattle.std.proofs.Common.{◌≡◌, ℕ, zero, suc, List, [], ◌∷◌, ◌++◌, ◌+◌, arith, refl, sym, ap, ◌∙◌, Bor}
-use Rattle.xml_trees.specs.Trees.{Trees, Nothing, Words, Element, trees_and, Built, Whole, Within, built_and, ended}
+use Rattle.std.proofs.Common.{◌≡◌, ℕ, List, [], ◌∷◌, ◌++◌, ◌+◌, arith, refl, ap, ◌∙◌, Bor}
+use Rattle.xml_trees.specs.Trees.{Trees, Nothing, Words, Element, trees_and, Built, Whole, Within, built_and}
 use Rattle.xml_trees.specs.declared.tag.Tag.{Tag}
 use Rattle.xml_trees.specs.declared.attrs.Attr.{Attr}
 use Rattle.page_walk.specs.declared.trees.Todo.{Todo}
