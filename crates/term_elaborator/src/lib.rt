@@ -1,5 +1,5 @@
-//! From terms without sugar to terms of the explicit language: names resolved, types inferred, and what a call leaves out
-//! inserted.
+//! From terms without sugar to terms of the explicit language: names resolved, types inferred, and what a call leaves
+//! out inserted.
 //!
 //! A term whose type isn't known yet is kept as far as it was elaborated, and goes on from there once more of its
 //! wanted type is known; so no part is elaborated twice.
