@@ -1,4 +1,7 @@
 //! The datatypes that declarations make.
+ghost use Rattle.std.specs.Prelude.{◌≡◌, ◌++◌, ◌∷◌, [], IfOk, OnOk, map};
+ghost use Rattle.core_terms.specs.View.{constructor_view, datatype_view, decl_tree, decls_view, maybe_con};
+ghost use Rattle.core_typing.specs.Declarations.{datatypes, datatypes_before as before};
 
 use con_terms::con::Con;
 use con_terms::copy::copy_con;
@@ -8,7 +11,9 @@ use type_faults::copy_symbols;
 use type_makers::datatypes::basis_datatypes;
 
 /// A copy of what a constructor holds.
-fn copy_held(alloc: Global, held: &Option<Con>) -> Result<Option<Con>, AllocError> {
+fn copy_held(alloc: Global, held: &Option<Con>) -> Result<Option<Con>, AllocError>
+    ensures { IfOk result (λ new. maybe_con new ≡ maybe_con held.now) }
+{
     match held {
         None => Ok(None),
         Some(c) => Ok(Some(copy_con(alloc, c)?)),
@@ -16,7 +21,9 @@ fn copy_held(alloc: Global, held: &Option<Con>) -> Result<Option<Con>, AllocErro
 }
 
 /// A copy of a constructor.
-fn copy_constructor(alloc: Global, c: &Constructor) -> Result<Constructor, AllocError> {
+fn copy_constructor(alloc: Global, c: &Constructor) -> Result<Constructor, AllocError>
+    ensures { IfOk result (λ new. constructor_view new ≡ constructor_view c.now) }
+{
     Ok(Constructor {
         place: c.place,
         name: c.name,
@@ -25,7 +32,9 @@ fn copy_constructor(alloc: Global, c: &Constructor) -> Result<Constructor, Alloc
 }
 
 /// A copy of the constructors of a datatype.
-fn copy_constructors(alloc: Global, cs: &Constructors) -> Result<Constructors, AllocError> {
+fn copy_constructors(alloc: Global, cs: &Constructors) -> Result<Constructors, AllocError>
+    ensures { IfOk result (λ new. map constructor_view new.items.items ≡ map constructor_view cs.now.items.items) }
+{
     let mut items = Vec::with_capacity(alloc, cs.items.len())?;
     for j in 0..cs.items.len() {
         items.push(copy_constructor(alloc, &cs.items[j])?)?;
@@ -34,7 +43,9 @@ fn copy_constructors(alloc: Global, cs: &Constructors) -> Result<Constructors, A
 }
 
 /// A copy of a datatype.
-pub fn copy_datatype(alloc: Global, d: &Datatype) -> Result<Datatype, AllocError> {
+pub fn copy_datatype(alloc: Global, d: &Datatype) -> Result<Datatype, AllocError>
+    ensures { IfOk result (λ new. datatype_view new ≡ datatype_view d.now) }
+{
     Ok(Datatype {
         path: copy_symbols(alloc, &d.path)?,
         place: d.place,
@@ -47,7 +58,10 @@ pub fn copy_datatype(alloc: Global, d: &Datatype) -> Result<Datatype, AllocError
 }
 
 /// Puts the datatype of a declaration behind others, where it makes one.
-fn add_datatype(alloc: Global, decl: &Decl, all: &mut Vec<Datatype>) -> Result<(), AllocError> {
+fn add_datatype(alloc: Global, decl: &Decl, all: &mut Vec<Datatype>) -> Result<(), AllocError>
+    ensures { OnOk result (map datatype_view all.new.items ≡
+        map datatype_view all.old.items ++ datatypes (decl_tree decl.now ∷ [])) }
+{
     match decl {
         Decl::Datatype(d) => Ok(all.push(copy_datatype(alloc, d)?)?),
         Decl::Val(_, _) => Ok(()),
@@ -58,11 +72,14 @@ fn add_datatype(alloc: Global, decl: &Decl, all: &mut Vec<Datatype>) -> Result<(
 }
 
 /// The datatypes that every program has, and then those of so many declarations.
+#[tactic(auto, using(crate::proofs::Before::before_all))]
 pub fn datatypes_before(
     alloc: Global,
     decls: &Decls,
     counted: usize,
-) -> Result<Vec<Datatype>, AllocError> {
+) -> Result<Vec<Datatype>, AllocError>
+    ensures { IfOk result (λ ds. map datatype_view ds.items ≡ before counted (decls_view decls.now)) }
+{
     let mut all = basis_datatypes(alloc)?;
     for i in 0..decls.items.len() {
         if i >= counted {

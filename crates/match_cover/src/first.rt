@@ -1,7 +1,13 @@
 //! The first shape of a type.
+ghost use Rattle.std.specs.Prelude.{◌≡◌, IfOk, map};
+ghost use Rattle.con_terms.specs.Trees.{con_list};
+ghost use Rattle.con_terms.specs.View.{con_tree, cons_tree};
+ghost use Rattle.core_terms.specs.View.{constructor_view, datatype_view};
+ghost use Rattle.match_cover.specs.Misses as meant;
+ghost use Rattle.match_cover.specs.View.{first_view, firsts_view, part_view, seen_view};
 
 use crate::seen::{Part, Seen, held_type, see};
-use crate::shapes::{Shapes, gather};
+use crate::shapes::{Shapes, gather, shape_before};
 use crate::test::normal_of;
 use con_terms::con::{Con, Cons};
 use core_terms::Datatype;
@@ -25,7 +31,9 @@ pub fn spend(work: &mut Work) -> Result<(), AllocError> {
 }
 
 /// A constructor's place. One past 2^32 - 1 counts as want of memory.
-pub fn place(j: usize) -> Result<u32, AllocError> {
+pub fn place(j: usize) -> Result<u32, AllocError>
+    ensures { IfOk result (λ p. p ≡ j) }
+{
     if j > u32::MAX as usize {
         return Err(AllocError);
     }
@@ -41,7 +49,10 @@ pub fn first_shape(
     depth: u32,
     t: &Con,
     work: &mut Work,
-) -> Result<Option<Shape>, AllocError> {
+) -> Result<Option<Shape>, AllocError>
+    ensures { IfOk result (λ o. first_view o ≡
+        meant.first_shape (map datatype_view datatypes.now.items) depth (con_tree t.now)) }
+{
     if depth == 0 {
         return Ok(Some(Shape::Leaf));
     }
@@ -64,7 +75,10 @@ fn first_seen(
     depth: u32,
     told: &Seen,
     work: &mut Work,
-) -> Result<Option<Shape>, AllocError> {
+) -> Result<Option<Shape>, AllocError>
+    ensures { IfOk result (λ o. first_view o ≡
+        meant.first_seen (meant.first_shape (map datatype_view datatypes.now.items) depth) (seen_view told.now)) }
+{
     match told {
         Seen::Number => Ok(Some(Shape::Number(0))),
         Seen::Words => Ok(Some(Shape::Words(Text::new(alloc)))),
@@ -87,7 +101,11 @@ fn first_built(
     d: &Datatype,
     args: &Cons,
     work: &mut Work,
-) -> Result<Option<Shape>, AllocError> {
+) -> Result<Option<Shape>, AllocError>
+    ensures { IfOk result (λ o. first_view o ≡
+        meant.first_built (meant.first_shape (map datatype_view datatypes.now.items) depth) d.now.symbol.number
+        (con_list (cons_tree args.now)) (map constructor_view d.now.constructors.items.items) 0) }
+{
     for j in 0..d.constructors.items.len() {
         match &d.constructors.items[j].holds {
             None => return Ok(Some(Shape::Bare(d.symbol, place(j)?))),
@@ -115,7 +133,11 @@ fn first_fields(
     depth: u32,
     fields: &Vec<Part>,
     work: &mut Work,
-) -> Result<Option<Shapes>, AllocError> {
+) -> Result<Option<Shapes>, AllocError>
+    ensures { IfOk result (λ o. firsts_view o ≡
+        meant.first_fields (meant.first_shape (map datatype_view datatypes.now.items) depth)
+        (map part_view fields.now.items)) }
+{
     let mut shapes = Shapes::End;
     let mut left = fields.len();
     while left > 0 {
@@ -123,8 +145,7 @@ fn first_fields(
         match first_shape(alloc, datatypes, depth, &fields[left].con, work)? {
             None => return Ok(None),
             Some(s) => {
-                let first = Box::new(alloc, s)?;
-                shapes = Shapes::More(first, Box::new(alloc, shapes)?);
+                shapes = shape_before(alloc, s, shapes)?;
             }
         }
     }

@@ -4,8 +4,11 @@
 //! right: constructors in the order of their declaration, numbers from 0 on, texts by their length and then by their
 //! bytes, fields as the type's normal form has them. So the shape that is told is the first one that is missed.
 //!
-//! Proved here: each call is safe and ends. Not proved, and tried by whole programs alone: that `Ok` means that the
-//! patterns cover the type, that a shape that is told is missed, and that a type that is called too large is.
+//! Proved here: patterns for which `covers` and `covers_asked` answer `Ok` take every value of the type, and no part's
+//! type is too large; a shape that they tell is one of the type's that no pattern takes; a type that they call too
+//! large is so, or that of a part is. What they compute stands in `specs/`, and that it is right in `laws.rt`. Patterns
+//! that are nested too deep, and a match that takes too many steps, count as want of memory. The shape that is told is
+//! the first one of the computed answer; that it is the least of the missed ones is not stated.
 #![tactic(auto)]
 
 pub mod columns;
@@ -14,6 +17,7 @@ pub mod declared;
 pub mod fault;
 mod first;
 mod free;
+pub mod laws;
 mod levels;
 mod literals;
 mod miss;

@@ -1,4 +1,13 @@
 //! The first shapes that no row passes.
+ghost use Rattle.std.specs.Prelude.{◌≡◌, ◌∷◌, IfOk, List, map, suc};
+ghost use Rattle.core_terms.specs.Trees.{Cd};
+ghost use Rattle.con_terms.specs.Trees.{con_list};
+ghost use Rattle.con_terms.specs.View.{con_tree, cons_tree};
+ghost use Rattle.core_terms.specs.View.{constructor_view, datatype_view};
+ghost use Rattle.match_cover.specs.Misses as meant;
+ghost use Rattle.match_cover.specs.Rows.{inside as inside_of, tails as tails_of};
+ghost use Rattle.match_cover.specs.View.{columns_view, out_view, part_view, rows_view, seen_view, tried_view};
+ghost use Rattle.type_faults.specs.View.{shape_tree};
 
 use crate::columns::{Columns, column_before, columns_at};
 use crate::first::{Work, first_shape, place};
@@ -6,7 +15,7 @@ use crate::free::{Ahead, Next, free_columns, prepended};
 use crate::literals::{LITERALS, nth_literal};
 use crate::rows::{Rows, heads_are_free, inside, kept, opened, tails};
 use crate::seen::{Part, Seen, held_type, see};
-use crate::shapes::{Shapes, gather};
+use crate::shapes::{Shapes, bare, gather, holding, shape_before};
 use crate::test::normal_of;
 use con_terms::con::{Con, Cons};
 use con_terms::symbol::Sym;
@@ -27,17 +36,12 @@ pub enum Tried {
 }
 
 /// A shape before what is missed behind it.
-fn then_shape(
-    alloc: Global,
-    s: Shape,
-    behind: Option<Shapes>,
-) -> Result<Option<Shapes>, AllocError> {
+fn then_shape(alloc: Global, s: Shape, behind: Option<Shapes>) -> Result<Option<Shapes>, AllocError>
+    ensures { IfOk result (λ o. out_view o ≡ meant.then_shape (shape_tree s) (out_view behind)) }
+{
     match behind {
         None => Ok(None),
-        Some(shapes) => {
-            let first = Box::new(alloc, s)?;
-            Ok(Some(Shapes::More(first, Box::new(alloc, shapes)?)))
-        }
+        Some(shapes) => Ok(Some(shape_before(alloc, s, shapes)?)),
     }
 }
 
@@ -47,7 +51,9 @@ fn wrapped(
     d: Sym,
     j: u32,
     missed: Option<Shapes>,
-) -> Result<Option<Shapes>, AllocError> {
+) -> Result<Option<Shapes>, AllocError>
+    ensures { IfOk result (λ o. out_view o ≡ meant.wrapped d.number j (out_view missed)) }
+{
     match missed {
         None => Ok(None),
         Some(Shapes::End) => Err(AllocError),
@@ -63,19 +69,23 @@ fn gathered(
     alloc: Global,
     fields: &Vec<Part>,
     missed: Option<Shapes>,
-) -> Result<Option<Shapes>, AllocError> {
+) -> Result<Option<Shapes>, AllocError>
+    ensures { IfOk result (λ o. out_view o ≡
+        meant.gathered (map part_view fields.now.items) (out_view missed)) }
+{
     match missed {
         None => Ok(None),
         Some(shapes) => {
             let g = gather(alloc, fields, shapes)?;
-            let shape = Box::new(alloc, g.shape)?;
-            Ok(Some(Shapes::More(shape, Box::new(alloc, g.rest)?)))
+            Ok(Some(shape_before(alloc, g.shape, g.rest)?))
         }
     }
 }
 
 /// What is missed first, or else what further shapes tell.
-fn or_more(missed: Option<Shapes>) -> Tried {
+fn or_more(missed: Option<Shapes>) -> Tried
+    ensures { (more : meant.Out) → tried_view result more ≡ meant.or_else (out_view missed) more }
+{
     match missed {
         None => Tried::More,
         Some(shapes) => Tried::Missed(shapes),
@@ -83,7 +93,9 @@ fn or_more(missed: Option<Shapes>) -> Tried {
 }
 
 /// What tells of all shapes of the first column.
-fn of_all(missed: Option<Shapes>) -> Tried {
+fn of_all(missed: Option<Shapes>) -> Tried
+    ensures { (more : meant.Out) → tried_view result more ≡ out_view missed }
+{
     match missed {
         None => Tried::All,
         Some(shapes) => Tried::Missed(shapes),
@@ -101,7 +113,10 @@ pub fn misses(
     rows: &Rows,
     room: u32,
     work: &mut Work,
-) -> Result<Option<Shapes>, AllocError> {
+) -> Result<Option<Shapes>, AllocError>
+    ensures { IfOk result (λ o. out_view o ≡ meant.misses (map datatype_view datatypes.now.items) room
+        (columns_view cols.now.value) (rows_view rows.now)) }
+{
     let Ahead { shapes, next } = free_columns(alloc, datatypes, cols, rows, room, work)?;
     let behind = match next {
         Next::Covered => None,
@@ -127,7 +142,11 @@ fn behind(
     with: &Rows,
     room: u32,
     work: &mut Work,
-) -> Result<Option<Shapes>, AllocError> {
+) -> Result<Option<Shapes>, AllocError>
+    ensures { IfOk result (λ o. out_view o ≡ meant.then_shape (shape_tree s)
+        (meant.misses (map datatype_view datatypes.now.items) room (columns_view rest.now.value)
+        (tails_of (rows_view with.now)))) }
+{
     let rows = tails(alloc, with)?;
     let missed = misses(alloc, datatypes, rest, &rows, room, work)?;
     then_shape(alloc, s, missed)
@@ -145,7 +164,11 @@ fn split(
     rows: &Rows,
     room: u32,
     work: &mut Work,
-) -> Result<Option<Shapes>, AllocError> {
+) -> Result<Option<Shapes>, AllocError>
+    ensures { IfOk result (λ o. out_view o ≡ meant.split (map datatype_view datatypes.now.items)
+        (meant.misses (map datatype_view datatypes.now.items) room) (depth, con_tree t.now)
+        (columns_view rest.now.value) (rows_view rows.now)) }
+{
     if depth == 0 {
         return Err(AllocError);
     }
@@ -170,7 +193,11 @@ fn by_seen(
     rows: &Rows,
     room: u32,
     work: &mut Work,
-) -> Result<Option<Shapes>, AllocError> {
+) -> Result<Option<Shapes>, AllocError>
+    ensures { IfOk result (λ o. out_view o ≡ meant.by_seen (map datatype_view datatypes.now.items)
+        (meant.misses (map datatype_view datatypes.now.items) room) depth
+        (columns_view rest.now.value) (rows_view rows.now) (seen_view told.now)) }
+{
     match told {
         Seen::Number => by_literals(alloc, datatypes, false, rest, rows, room, work),
         Seen::Words => by_literals(alloc, datatypes, true, rest, rows, room, work),
@@ -198,7 +225,11 @@ fn try_shape(
     rows: &Rows,
     room: u32,
     work: &mut Work,
-) -> Result<Tried, AllocError> {
+) -> Result<Tried, AllocError>
+    ensures { IfOk result (λ o. (more : meant.Out) → tried_view o more ≡ meant.tried
+        (meant.misses (map datatype_view datatypes.now.items) room (columns_view rest.now.value))
+        (shape_tree s) (rows_view rows.now) more) }
+{
     let with = kept(alloc, &s, rows)?;
     let missed = behind(alloc, datatypes, s, rest, &with, room, work)?;
     if heads_are_free(&with) {
@@ -219,10 +250,15 @@ fn by_literals(
     rows: &Rows,
     room: u32,
     work: &mut Work,
-) -> Result<Option<Shapes>, AllocError> {
+) -> Result<Option<Shapes>, AllocError>
+    ensures { IfOk result (λ o. out_view o ≡ meant.literals
+        (meant.misses (map datatype_view datatypes.now.items) room (columns_view rest.now.value))
+        words (rows_view rows.now) meant.literal_count 0) }
+{
     for z in 0..LITERALS {
         let s = nth_literal(alloc, words, z)?;
-        match try_shape(alloc, datatypes, s, rest, rows, room, work)? {
+        let told = try_shape(alloc, datatypes, s, rest, rows, room, work)?;
+        match told {
             Tried::All => return Ok(None),
             Tried::Missed(shapes) => return Ok(Some(shapes)),
             Tried::More => {}
@@ -244,13 +280,19 @@ fn by_constructors(
     rows: &Rows,
     room: u32,
     work: &mut Work,
-) -> Result<Option<Shapes>, AllocError> {
+) -> Result<Option<Shapes>, AllocError>
+    ensures { IfOk result (λ o. out_view o ≡ meant.built_cases (map datatype_view datatypes.now.items)
+        (meant.misses (map datatype_view datatypes.now.items) room) depth d.now.symbol.number
+        (con_list (cons_tree args.now)) (columns_view rest.now.value) (rows_view rows.now)
+        (map constructor_view d.now.constructors.items.items) 0) }
+{
     for j in 0..d.constructors.items.len() {
         let c = &d.constructors.items[j];
         let place = place(j)?;
-        match at_constructor(
+        let told = at_constructor(
             alloc, datatypes, depth, d.symbol, place, c, args, rest, rows, room, work,
-        )? {
+        )?;
+        match told {
             Tried::All => return Ok(None),
             Tried::Missed(shapes) => return Ok(Some(shapes)),
             Tried::More => {}
@@ -274,9 +316,21 @@ fn at_constructor(
     rows: &Rows,
     room: u32,
     work: &mut Work,
-) -> Result<Tried, AllocError> {
+) -> Result<Tried, AllocError>
+    ensures { IfOk result (λ o. (cs : List Cd) → tried_view o (meant.built_cases (map datatype_view datatypes.now.items)
+        (meant.misses (map datatype_view datatypes.now.items) room) depth d.number
+        (con_list (cons_tree args.now)) (columns_view rest.now.value) (rows_view rows.now) cs (suc j))
+        ≡ meant.built_cases (map datatype_view datatypes.now.items)
+        (meant.misses (map datatype_view datatypes.now.items) room) depth d.number
+        (con_list (cons_tree args.now)) (columns_view rest.now.value) (rows_view rows.now)
+        (constructor_view c.now ∷ cs) j) }
+{
     match &c.holds {
-        None => try_shape(alloc, datatypes, Shape::Bare(d, j), rest, rows, room, work),
+        None => {
+            let s = bare(d, j);
+            let told = try_shape(alloc, datatypes, s, rest, rows, room, work)?;
+            Ok(told)
+        }
         Some(held) => {
             let t = held_type(alloc, args, held)?;
             at_holding(alloc, datatypes, depth, d, j, t, rest, rows, room, work)
@@ -298,19 +352,47 @@ fn at_holding(
     rows: &Rows,
     room: u32,
     work: &mut Work,
-) -> Result<Tried, AllocError> {
+) -> Result<Tried, AllocError>
+    ensures { IfOk result (λ o. (more : meant.Out) → tried_view o more ≡ meant.held_cases
+        (map datatype_view datatypes.now.items) (meant.misses (map datatype_view datatypes.now.items) room) depth
+        d.number j (con_tree t) (columns_view rest.now.value) (rows_view rows.now) more) }
+{
     match first_shape(alloc, datatypes, depth, &t, work)? {
         None => Ok(Tried::More),
         Some(h) => {
-            let s = Shape::Holding(d, j, Box::new(alloc, h)?);
+            let s = holding(alloc, d, j, h)?;
             let with = kept(alloc, &s, rows)?;
             if heads_are_free(&with) {
-                return Ok(of_all(behind(alloc, datatypes, s, rest, &with, room, work)?));
+                let missed = behind(alloc, datatypes, s, rest, &with, room, work)?;
+                return Ok(of_all(missed));
             }
-            let inner = inside(alloc, d, j, rows)?;
-            let cols = column_before(alloc, depth, t, rest)?;
-            let missed = misses(alloc, datatypes, &cols, &inner, room, work)?;
-            Ok(or_more(wrapped(alloc, d, j, missed)?))
+            let told = at_inside(alloc, datatypes, depth, d, j, t, rest, rows, room, work)?;
+            Ok(told)
         }
     }
+}
+
+/// What the shapes of what a constructor holds tell, one by one.
+#[cycle(misses)]
+#[inline(never)]
+fn at_inside(
+    alloc: Global,
+    datatypes: &Vec<Datatype>,
+    depth: u32,
+    d: Sym,
+    j: u32,
+    t: Con,
+    rest: &Rc<Columns>,
+    rows: &Rows,
+    room: u32,
+    work: &mut Work,
+) -> Result<Tried, AllocError>
+    ensures { IfOk result (λ o. (more : meant.Out) → tried_view o more ≡ meant.or_else (meant.wrapped d.number j
+        (meant.misses (map datatype_view datatypes.now.items) room ((depth, con_tree t) ∷ columns_view rest.now.value)
+        (inside_of d.number j (rows_view rows.now)))) more) }
+{
+    let inner = inside(alloc, d, j, rows)?;
+    let cols = column_before(alloc, depth, t, rest)?;
+    let missed = misses(alloc, datatypes, &cols, &inner, room, work)?;
+    Ok(or_more(wrapped(alloc, d, j, missed)?))
 }

@@ -1,5 +1,11 @@
 //! What patterns ask of values.
-ghost use Rattle.std.specs.Prelude.{◌+◌, ◌<◌, ◌≤◌, IfOk};
+ghost use Rattle.std.specs.Prelude.{◌≡◌, ◌+◌, ◌<◌, ◌≤◌, IfOk};
+ghost use Rattle.con_terms.specs.View.{con_tree};
+ghost use Rattle.core_terms.specs.View.{pat_fields_tree, pat_form_tree, pat_tree, maybe_con};
+ghost use Rattle.core_typing.specs.Cover.{fields_depth as fields_deep, form_depth as form_deep, pattern_depth as pattern_deep};
+ghost use Rattle.core_typing.specs.Scopes.{normal_of as normal_in};
+ghost use Rattle.match_cover.specs.Tests as meant;
+ghost use Rattle.match_cover.specs.View.{test_tree, tests_tree};
 
 use con_terms::con::Con;
 use con_terms::kind::Kind;
@@ -34,7 +40,9 @@ pub enum Tests {
 }
 
 /// The normal form of a constructor, where it isn't too large.
-pub fn normal_of(alloc: Global, c: &Con) -> Result<Option<Con>, AllocError> {
+pub fn normal_of(alloc: Global, c: &Con) -> Result<Option<Con>, AllocError>
+    ensures { IfOk result (λ o. maybe_con o ≡ normal_in (con_tree c.now)) }
+{
     let mut fuel = comparison_fuel();
     match normal(alloc, c, &Kind::Types, &mut fuel) {
         Ok(n) => Ok(Some(n.into_con())),
@@ -44,13 +52,17 @@ pub fn normal_of(alloc: Global, c: &Con) -> Result<Option<Con>, AllocError> {
 }
 
 /// Something that is owned by several.
-fn owned<T: Drop>(alloc: Global, value: T) -> Result<Rc<T>, AllocError> {
+fn owned<T: Drop>(alloc: Global, value: T) -> Result<Rc<T>, AllocError>
+    ensures { IfOk result (λ new. new.value ≡ value) }
+{
     Ok(Rc::new(alloc, value).map_err(AllocError::from)?)
 }
 
 /// What a pattern asks. One that is nested deeper than the room counts as want of memory.
 #[cycle(test_of)]
-pub fn test_of(alloc: Global, p: &Pat, room: u32) -> Result<Test, AllocError> {
+pub fn test_of(alloc: Global, p: &Pat, room: u32) -> Result<Test, AllocError>
+    ensures { IfOk result (λ t. test_tree t ≡ meant.test_of (pat_tree p.now)) }
+{
     if room == 0 {
         return Err(AllocError);
     }
@@ -59,7 +71,9 @@ pub fn test_of(alloc: Global, p: &Pat, room: u32) -> Result<Test, AllocError> {
 
 /// What a form of pattern asks.
 #[cycle(test_of)]
-fn form_test(alloc: Global, f: &PatForm, room: u32) -> Result<Test, AllocError> {
+fn form_test(alloc: Global, f: &PatForm, room: u32) -> Result<Test, AllocError>
+    ensures { IfOk result (λ t. test_tree t ≡ meant.form_test (pat_form_tree f.now)) }
+{
     match f {
         PatForm::Any | PatForm::Bind(_, _, _) => Ok(Test::Anything),
         PatForm::Int(z) => Ok(Test::Number(*z)),
@@ -79,7 +93,10 @@ fn form_test(alloc: Global, f: &PatForm, room: u32) -> Result<Test, AllocError> 
 
 /// What fields ask, from the last to the first.
 #[cycle(test_of)]
-fn fields_test(alloc: Global, fs: &PatFields, room: u32) -> Result<Tests, AllocError> {
+#[tactic(auto, using(crate::proofs::PatternFields::tests_on, crate::proofs::PatternFields::fields_tree_is))]
+fn fields_test(alloc: Global, fs: &PatFields, room: u32) -> Result<Tests, AllocError>
+    ensures { IfOk result (λ ts. tests_tree ts ≡ meant.fields_test (pat_fields_tree fs.now)) }
+{
     let mut tests = Tests::End;
     let mut left = fs.items.len();
     while left > 0 {
@@ -95,6 +112,7 @@ fn fields_test(alloc: Global, fs: &PatFields, room: u32) -> Result<Tests, AllocE
 /// How deep constructors, records and literals stand in a pattern.
 #[cycle(pattern_depth)]
 pub fn pattern_depth(p: &Pat, room: u32) -> Result<u32, AllocError>
+    ensures depth { IfOk result (λ d. d ≡ pattern_deep (pat_tree p.now)) }
     ensures small { IfOk result (λ d. d ≤ room) }
 {
     if room == 0 {
@@ -107,6 +125,7 @@ pub fn pattern_depth(p: &Pat, room: u32) -> Result<u32, AllocError>
 #[cycle(pattern_depth)]
 fn form_depth(f: &PatForm, room: u32) -> Result<u32, AllocError>
     requires { room < 4294967295 }
+    ensures depth { IfOk result (λ d. d ≡ form_deep (pat_form_tree f.now)) }
     ensures small { IfOk result (λ d. d ≤ room + 1) }
 {
     match f {
@@ -120,7 +139,9 @@ fn form_depth(f: &PatForm, room: u32) -> Result<u32, AllocError>
 
 /// The same for fields.
 #[cycle(pattern_depth)]
+#[tactic(auto, using(crate::proofs::PatternFields::depth_on, crate::proofs::PatternFields::fields_tree_is))]
 fn fields_depth(fs: &PatFields, room: u32) -> Result<u32, AllocError>
+    ensures depth { IfOk result (λ d. d ≡ fields_deep (pat_fields_tree fs.now)) }
     ensures small { IfOk result (λ d. d ≤ room) }
 {
     let mut deepest = 0;

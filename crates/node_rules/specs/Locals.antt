@@ -7,7 +7,6 @@ use Rattle.kind_rules.specs.Kinding.{judged_at}
 use Rattle.core_typing.specs.Scopes.{Sc}
 use Rattle.core_typing.specs.Faults.{Fault}
 use Rattle.core_typing.specs.Judged.{flaw_at}
-use Rattle.core_typing.specs.Own.{type_place}
 use Rattle.told_faults.specs.Computed.{Jd, first, wants, on_type}
 
 -- whether all declarations so far are found, what is told of their terms, and what is told of themselves

@@ -40,13 +40,16 @@ abbrev pub is_kinded : Result Kd Flw → Bool
 is_kinded (Ok k) = true
 is_kinded (Err w) = false
 
--- {.., n = e}
-abbrev pub with_field : Sc → Place → Cn → Jd → Rw → Rw
-with_field G q n j r = record {
-  row = with_kinded n (is_kinded (judged_at G.kinds n names)) j.type r.row;
+-- {.., n = e}, from the name's kind
+abbrev pub with_known : Sc → Place → Cn → Result Kd Flw → Jd → Rw → Rw
+with_known G q n k j r = record {
+  row = with_kinded n (is_kinded k) j.type r.row;
   kids = first r.kids j.told;
-  own = first r.own (flawed G q (judged_at G.kinds n names));
+  own = first r.own (flawed G q k);
 }
+
+abbrev pub with_field : Sc → Place → Cn → Jd → Rw → Rw
+with_field G q n j r = with_known G q n (judged_at G.kinds n names) j r
 
 -- {n = e, ..}
 abbrev pub of_whole : Sc → Place → Option Fault → Option Fault → Cn → Result Kd Flw → Jd

@@ -107,7 +107,11 @@ pub fn with_declared(
     t: &Con,
     j: Judged,
     past: Found,
-) -> Result<Found, AllocError> {
+) -> Result<Found, AllocError>
+    ensures { IfOk result
+        (λ r. found_tree r
+        ≡ computed.with_declared (sc_view g.now s.now) p q (con_tree t.now) (judged_tree j) (found_tree past)) }
+{
     let k = has_kind(alloc, s, t, &Kind::Types)?;
     let next = of_declared(alloc, g, s, p, q, t, k, j)?;
     Ok(and_then_found(past, next))

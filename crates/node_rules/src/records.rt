@@ -110,6 +110,38 @@ pub fn name_flaw(
     }
 }
 
+/// One more field, which stands at `q`, from its name's kind: its name, and what is found for its term.
+fn with_known(
+    alloc: Global,
+    g: &Globals,
+    s: &Here,
+    q: Place,
+    n: &Con,
+    k: Result<Kind, Flaw>,
+    j: Judged,
+    past: Row,
+) -> Result<Row, AllocError>
+    ensures { IfOk result
+        (λ r. row_tree r
+        ≡ computed.with_known
+        (sc_view g.now s.now)
+        q
+        (con_tree n.now)
+        (found kind_tree k)
+        (judged_tree j)
+        (row_tree past)) }
+{
+    let Judged { ty, told } = j;
+    let Row { row, kids, own } = past;
+    let is_name = is_kinded(&k);
+    let flaw = name_flaw(alloc, g, s, q, k)?;
+    Ok(Row {
+        row: with_kinded(alloc, n, is_name, ty, row)?,
+        kids: first(kids, told),
+        own: first(own, flaw),
+    })
+}
+
 /// One more field, which stands at `q`: its name, and what is found for its term.
 pub fn with_field(
     alloc: Global,
@@ -119,17 +151,13 @@ pub fn with_field(
     n: &Con,
     j: Judged,
     past: Row,
-) -> Result<Row, AllocError> {
-    let Judged { ty, told } = j;
-    let Row { row, kids, own } = past;
+) -> Result<Row, AllocError>
+    ensures { IfOk result
+        (λ r. row_tree r
+        ≡ computed.with_field (sc_view g.now s.now) q (con_tree n.now) (judged_tree j) (row_tree past)) }
+{
     let k = has_kind(alloc, s, n, &Kind::Names)?;
-    let is_name = is_kinded(&k);
-    let flaw = name_flaw(alloc, g, s, q, k)?;
-    Ok(Row {
-        row: with_kinded(alloc, n, is_name, ty, row)?,
-        kids: first(kids, told),
-        own: first(own, flaw),
-    })
+    with_known(alloc, g, s, q, n, k, j, past)
 }
 
 /// A record of this row, from the row's kind.

@@ -1,0 +1,4 @@
+pub mod Binds
+pub mod Matching
+pub mod View
+pub mod Laws

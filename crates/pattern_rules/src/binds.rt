@@ -2,10 +2,26 @@
 //!
 //! Types are bound before those that are bound already, the innermost first. What is told of a pattern is the earliest
 //! of all that is at fault in it.
+ghost use Rattle.std.specs.Prelude.{◌≡◌, IfOk, None};
+ghost use Rattle.con_terms.specs.Trees.{names, no_pairs, record_of, types};
+ghost use Rattle.con_terms.specs.View.{con_tree};
+ghost use Rattle.core_terms.specs.Types.{type_row};
+ghost use Rattle.core_terms.specs.Lists.{pat_field_tree};
+ghost use Rattle.core_terms.specs.View.{pat_fields_tree, pat_tree};
+ghost use Rattle.core_typing.specs.Faults.{mismatch as mismatch_at};
+ghost use Rattle.core_typing.specs.Scopes.{normal_of as normal_in};
+ghost use Rattle.judgements.specs.Bindings.{bad_pattern};
+ghost use Rattle.judgements.specs.View.{bound_tree, cons_view, locals_view, sc_view};
+ghost use Rattle.kind_rules.specs.Kinding.{judged_at};
+ghost use Rattle.kind_rules.specs.View.{scope_view};
+ghost use Rattle.pattern_rules.specs.Binds as computed;
+ghost use Rattle.pattern_rules.specs.View.{fields_tree, one_tree};
+ghost use Rattle.told_faults.specs.Computed.{wants as wanted_in};
+ghost use Rattle.type_faults.specs.View.{fault_tree, maybe_fault};
 
 use crate::constructors::{bare_binding, data_at, held_less};
 use crate::fields::{earlier, no_field_there, whole_binding};
-use con_terms::con::{Con, Cons, Pairs};
+use con_terms::con::{Con, Cons};
 use con_terms::kind::Kind;
 use con_terms::place::Place;
 use con_terms::symbol::Sym;
@@ -18,7 +34,7 @@ use row_normal::pieces::pieces;
 use std::alloc::{AllocError, Global};
 use std::rc::Rc;
 use type_faults::Fault;
-use type_makers::types::{int_type, string_type};
+use type_makers::types::{int_type, string_type, unit_type};
 
 /// The constructor that a pattern names, at a type: what is told, the type's normal form alone where the constructor
 /// holds nothing, or with what it holds.
@@ -45,7 +61,11 @@ fn literal_binding(
     t: &Con,
     own: Con,
     locals: &Rc<Locals>,
-) -> Result<Bound, AllocError> {
+) -> Result<Bound, AllocError>
+    ensures { IfOk result (λ b. bound_tree b ≡ computed.bind_unless
+        (locals_view locals.now.value)
+        (wanted_in (sc_view g.now s.now) p (con_tree t.now) (con_tree own))) }
+{
     match wants(alloc, g, s, p, t, &own)? {
         Some(f) => Ok(Bound::Bad(f)),
         None => Ok(Bound::Under(locals.clone()?)),
@@ -62,7 +82,15 @@ fn bind_one(
     t: &Con,
     u: &Con,
     locals: &Rc<Locals>,
-) -> Result<Bound, AllocError> {
+) -> Result<Bound, AllocError>
+    ensures { IfOk result (λ b. bound_tree b ≡ computed.bind_one
+        (sc_view g.now s.now)
+        (locals_view locals.now.value)
+        p
+        (con_tree t.now)
+        (con_tree u.now)
+        (judged_at (scope_view s.now.kinds.value) (con_tree u.now) types)) }
+{
     match has_kind(alloc, s, u, &Kind::Types)? {
         Err(flaw) => Ok(Bound::Bad(flaw_at(alloc, g, s, p, flaw)?)),
         Ok(_) => match wants(alloc, g, s, p, t, u)? {
@@ -83,7 +111,10 @@ pub fn binding(
     t: &Con,
     locals: &Rc<Locals>,
     room: u32,
-) -> Result<Bound, AllocError> {
+) -> Result<Bound, AllocError>
+    ensures { IfOk result (λ b. bound_tree b ≡
+        computed.binding (sc_view g.now s.now) (locals_view locals.now.value) (pat_tree q.now) (con_tree t.now)) }
+{
     if room == 0 {
         return Err(AllocError);
     }
@@ -93,13 +124,13 @@ pub fn binding(
         PatForm::Bind(_, _, u) => bind_one(alloc, g, s, p, t, u, locals),
         PatForm::Int(_) => literal_binding(alloc, g, s, p, t, int_type(), locals),
         PatForm::Words(_) => literal_binding(alloc, g, s, p, t, string_type(), locals),
-        PatForm::Build(d, j, None) => {
-            let at = data_at(alloc, g, s, p, *d, *j, t)?;
-            bare_binding(alloc, g, s, p, at, locals)
-        }
-        PatForm::Build(d, j, Some(held)) => {
-            holding_binding(alloc, g, s, p, *d, *j, held, t, locals, room - 1)
-        }
+        PatForm::Build(d, j, holds) => match holds {
+            None => {
+                let at = data_at(alloc, g, s, p, *d, *j, t)?;
+                bare_binding(alloc, g, s, p, at, locals)
+            }
+            Some(inner) => holding_binding(alloc, g, s, p, *d, *j, inner, t, locals, room - 1),
+        },
         PatForm::Rec(fs, more) => record_binding(alloc, g, s, p, fs, *more, t, locals, room - 1),
         PatForm::Typed(inner, u) => annotated_binding(
             alloc,
@@ -129,7 +160,11 @@ fn holding_binding(
     t: &Con,
     locals: &Rc<Locals>,
     room: u32,
-) -> Result<Bound, AllocError> {
+) -> Result<Bound, AllocError>
+    ensures { IfOk result (λ b. bound_tree b ≡ computed.holding_binding (sc_view g.now s.now) p
+        (computed.data_at (sc_view g.now s.now) p d.number j (con_tree t.now))
+        (λ u. computed.binding (sc_view g.now s.now) (locals_view locals.now.value) (pat_tree inner.now) u)) }
+{
     match data_at(alloc, g, s, p, d, j, t)? {
         AtData::Bad(f) => Ok(Bound::Bad(f)),
         AtData::Bare(n) => Ok(Bound::Bad(held_less(alloc, g, s, p, n)?)),
@@ -150,7 +185,15 @@ fn annotated_binding(
     u: &Con,
     locals: &Rc<Locals>,
     room: u32,
-) -> Result<Bound, AllocError> {
+) -> Result<Bound, AllocError>
+    ensures { IfOk result (λ b. bound_tree b ≡ computed.annotated_binding
+        (sc_view g.now s.now)
+        p
+        (con_tree t.now)
+        (con_tree u.now)
+        (judged_at (scope_view s.now.kinds.value) (con_tree u.now) types)
+        (computed.binding (sc_view g.now s.now) (locals_view locals.now.value) (pat_tree inner.now) (con_tree u.now))) }
+{
     match has_kind(alloc, s, u, &Kind::Types)? {
         Err(flaw) => Ok(Bound::Bad(flaw_at(alloc, g, s, p, flaw)?)),
         Ok(_) => {
@@ -167,10 +210,12 @@ fn annotated_binding(
 }
 
 /// What is told where a record was expected.
-fn no_record(alloc: Global, g: &Globals, s: &Here, p: Place, n: Con) -> Result<Bound, AllocError> {
-    let kind = Box::new(alloc, Kind::Types)?;
-    let row = Box::new(alloc, Con::Row(kind, Pairs::new(alloc)))?;
-    Ok(Bound::Bad(other_form(alloc, g, s, p, n, Con::Record(row))?))
+fn no_record(alloc: Global, g: &Globals, s: &Here, p: Place, n: Con) -> Result<Bound, AllocError>
+    ensures { IfOk result (λ b. bound_tree b ≡
+        bad_pattern (mismatch_at p (sc_view g.now s.now).called (con_tree n) (record_of (type_row no_pairs)))) }
+{
+    let found = unit_type(alloc)?;
+    Ok(Bound::Bad(other_form(alloc, g, s, p, n, found)?))
 }
 
 /// A record.
@@ -186,7 +231,19 @@ fn record_binding(
     t: &Con,
     locals: &Rc<Locals>,
     room: u32,
-) -> Result<Bound, AllocError> {
+) -> Result<Bound, AllocError>
+    ensures { IfOk result (λ b. bound_tree b ≡ computed.record_binding
+        (sc_view g.now s.now)
+        p
+        more
+        (normal_in (con_tree t.now))
+        (λ ps. computed.fields_binding
+        (sc_view g.now s.now)
+        None
+        (locals_view locals.now.value)
+        (pat_fields_tree fs.now)
+        ps)) }
+{
     match normal_of(alloc, t)? {
         None => Ok(Bound::Bad(Fault::TooLarge(p))),
         Some(Con::Record(r)) => {
@@ -209,7 +266,14 @@ fn fields_binding(
     all: Cons,
     locals: &Rc<Locals>,
     room: u32,
-) -> Result<FieldsBound, AllocError> {
+) -> Result<FieldsBound, AllocError>
+    ensures { IfOk result (λ b. fields_tree b ≡ computed.fields_binding
+        (sc_view g.now s.now)
+        None
+        (locals_view locals.now.value)
+        (pat_fields_tree fs.now)
+        (cons_view all)) }
+{
     let mut rest = all;
     let mut bound = locals.clone()?;
     let mut told: Option<Fault> = None;
@@ -241,7 +305,9 @@ pub enum OneField {
 }
 
 /// The earlier of what was told before and a fault.
-fn with_told(told: Option<Fault>, f: Fault) -> Fault {
+fn with_told(told: Option<Fault>, f: Fault) -> Fault
+    ensures { fault_tree result ≡ computed.with_told (maybe_fault told) (fault_tree f) }
+{
     match told {
         None => f,
         Some(h) => earlier(h, f),
@@ -259,7 +325,15 @@ fn field_binding(
     all: Cons,
     locals: &Rc<Locals>,
     room: u32,
-) -> Result<OneField, AllocError> {
+) -> Result<OneField, AllocError>
+    ensures { IfOk result (λ o. one_tree o ≡ computed.field_binding
+        (sc_view g.now s.now)
+        (pat_field_tree field.now).0
+        (pat_field_tree field.now).1
+        (cons_view all)
+        (judged_at (scope_view s.now.kinds.value) (pat_field_tree field.now).1 names)
+        (λ v. computed.binding (sc_view g.now s.now) (locals_view locals.now.value) (pat_field_tree field.now).2 v)) }
+{
     let p = field.place;
     match has_kind(alloc, s, &field.name, &Kind::Names)? {
         Err(flaw) => return Ok(OneField::Stop(flaw_at(alloc, g, s, p, flaw)?)),

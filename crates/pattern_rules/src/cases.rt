@@ -1,4 +1,16 @@
 //! What is found for a case, from what is found for its branches.
+ghost use Rattle.std.specs.Prelude.{◌≡◌, ◌∷◌, IfOk, List};
+ghost use Rattle.con_terms.specs.View.{con_tree};
+ghost use Rattle.core_terms.specs.Trees.{Pt};
+ghost use Rattle.core_terms.specs.View.{branches_tree, maybe_con, pat_tree};
+ghost use Rattle.core_typing.specs.Faults.{inexhaustive};
+ghost use Rattle.core_typing.specs.Typed.{branch_patterns};
+ghost use Rattle.judgements.specs.View.{judged_tree, sc_view};
+ghost use Rattle.match_cover.specs.Laws.{Asks};
+ghost use Rattle.match_cover.specs.View.{rows_view};
+ghost use Rattle.pattern_rules.specs.Matching as computed;
+ghost use Rattle.pattern_rules.specs.View.{branch_tree, cases_tree};
+ghost use Rattle.type_faults.specs.View.{fault_tree, maybe_fault, shape_tree};
 
 use con_terms::con::Con;
 use con_terms::place::Place;
@@ -6,7 +18,7 @@ use core_terms::{Branches, Pat};
 use judgements::{Globals, Here, Judged, names_called, wants};
 use match_cover::{Asked, CoverFault, covers_asked};
 use std::alloc::{AllocError, Global};
-use type_faults::{Fault, first};
+use type_faults::{Fault, Shape, first};
 
 /// A branch: its pattern is at fault, or this is found for its body.
 #[derive(Drop)]
@@ -27,7 +39,9 @@ pub struct Cases {
 }
 
 /// The first branch.
-pub fn first_case(b: Branch) -> Cases {
+pub fn first_case(b: Branch) -> Cases
+    ensures { cases_tree result ≡ computed.first_case (branch_tree b) }
+{
     match b {
         Branch::Bad(f) => Cases {
             ty: None,
@@ -57,12 +71,33 @@ fn differs(
     q: Place,
     wanted: &Option<Con>,
     found: &Option<Con>,
-) -> Result<Option<Fault>, AllocError> {
+) -> Result<Option<Fault>, AllocError>
+    ensures { IfOk result (λ o. maybe_fault o ≡
+        computed.differs (sc_view g.now s.now) q (maybe_con wanted.now) (maybe_con found.now)) }
+{
     match wanted {
         None => Ok(None),
         Some(u) => match found {
             None => Ok(None),
             Some(v) => wants(alloc, g, s, q, u, v),
+        },
+    }
+}
+
+/// Whether all have the type of the first, where a later branch is behind others: both have a type, and nothing is
+/// told.
+fn stays_alike(alike: bool, wanted: &Option<Con>, found: &Option<Con>, told: &Option<Fault>) -> bool
+    ensures { result ≡
+        computed.stays_alike alike (maybe_con wanted.now) (maybe_con found.now) (maybe_fault told.now) }
+{
+    match wanted {
+        None => false,
+        Some(_) => match found {
+            None => false,
+            Some(_) => match told {
+                None => alike,
+                Some(_) => false,
+            },
         },
     }
 }
@@ -75,7 +110,10 @@ pub fn with_case(
     q: Place,
     b: Branch,
     past: Cases,
-) -> Result<Cases, AllocError> {
+) -> Result<Cases, AllocError>
+    ensures { IfOk result (λ c. cases_tree c ≡
+        computed.with_case (sc_view g.now s.now) q (branch_tree b) (cases_tree past)) }
+{
     let Cases {
         ty,
         alike,
@@ -93,11 +131,11 @@ pub fn with_case(
         }),
         Branch::Found(j) => {
             let other = differs(alloc, g, s, q, &ty, &j.ty)?;
-            let as_first = ty.is_some() && j.ty.is_some() && other.is_none();
+            let alike = stays_alike(alike, &ty, &j.ty, &other);
             let Judged { ty: _, told } = j;
             Ok(Cases {
                 ty,
-                alike: alike && as_first,
+                alike,
                 bound,
                 kids: first(kids, told),
                 own: first(own, other),
@@ -107,13 +145,17 @@ pub fn with_case(
 }
 
 /// A type, where all branches have it.
-fn if_true(holds: bool, o: Option<Con>) -> Option<Con> {
+fn if_true(holds: bool, o: Option<Con>) -> Option<Con>
+    ensures { maybe_con result ≡ computed.if_true holds (maybe_con o) }
+{
     if holds { o } else { None }
 }
 
 /// `case e of ..`: what is told of `e`, what is found for the branches, and what cover tells, where all patterns are
 /// found.
-pub fn of_case(matched: Option<Fault>, cases: Cases, told: Option<Fault>) -> Judged {
+pub fn of_case(matched: Option<Fault>, cases: Cases, told: Option<Fault>) -> Judged
+    ensures { judged_tree result ≡ computed.of_case (maybe_fault matched) (cases_tree cases) (maybe_fault told) }
+{
     let Cases {
         ty,
         alike,
@@ -128,13 +170,31 @@ pub fn of_case(matched: Option<Fault>, cases: Cases, told: Option<Fault>) -> Jud
 }
 
 /// The pattern of a first branch, or of a parameter, and those of further branches.
-pub fn asked_of(alloc: Global, p: &Pat, more: &Branches) -> Result<Asked, AllocError> {
+pub fn asked_of(alloc: Global, p: &Pat, more: &Branches) -> Result<Asked, AllocError>
+    ensures { IfOk result
+        (λ a. Asks (pat_tree p.now ∷ branch_patterns (branches_tree more.now)) (rows_view a.rows) a.depth) }
+{
     let mut asked = Asked::new(alloc);
     asked.add(alloc, p)?;
     for i in 0..more.items.len() {
         asked.add(alloc, &more.items[i].pat)?;
     }
     Ok(asked)
+}
+
+/// A shape that no pattern takes, as the fault of a place.
+fn missed_at(
+    alloc: Global,
+    g: &Globals,
+    s: &Here,
+    p: Place,
+    shape: Shape,
+) -> Result<Fault, AllocError>
+    ensures { IfOk result
+        (λ f. fault_tree f ≡ inexhaustive p (sc_view g.now s.now).called (shape_tree shape)) }
+{
+    let called = names_called(alloc, &s.called)?;
+    Ok(Fault::Inexhaustive(p, called, Box::new(alloc, shape)?))
 }
 
 /// What keeps patterns from covering a type, at a place.
@@ -145,14 +205,16 @@ pub fn uncovered(
     p: Place,
     asked: &Asked,
     t: &Con,
-) -> Result<Option<Fault>, AllocError> {
+) -> Result<Option<Fault>, AllocError>
+    ensures exact { (ps : List Pt) → Asks ps (rows_view asked.now.rows) asked.now.depth → IfOk result
+        (λ o. maybe_fault o ≡ computed.uncovered (sc_view g.now s.now) p ps (con_tree t.now)) }
+    ensures cause { (ps : List Pt) → Asks ps (rows_view asked.now.rows) asked.now.depth → IfOk result
+        (λ o. computed.Uncovered (sc_view g.now s.now) p ps (con_tree t.now) (maybe_fault o)) }
+{
     match covers_asked(alloc, &g.datatypes, asked, t) {
         Ok(()) => Ok(None),
         Err(CoverFault::TooLarge) => Ok(Some(Fault::TooLarge(p))),
-        Err(CoverFault::Missed(shape)) => {
-            let called = names_called(alloc, &s.called)?;
-            Ok(Some(Fault::Inexhaustive(p, called, Box::new(alloc, shape)?)))
-        }
+        Err(CoverFault::Missed(shape)) => Ok(Some(missed_at(alloc, g, s, p, shape)?)),
         Err(CoverFault::Memory) => Err(AllocError),
     }
 }

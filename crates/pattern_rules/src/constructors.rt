@@ -1,4 +1,17 @@
 //! The constructor that a pattern names, at the type of what it takes.
+ghost use Rattle.std.specs.Prelude.{◌≡◌, IfOk, Some};
+ghost use Rattle.con_terms.specs.Trees as tree;
+ghost use Rattle.con_terms.specs.Trees.{basic, con_list};
+ghost use Rattle.con_terms.specs.View.{con_tree, cons_tree};
+ghost use Rattle.core_terms.specs.Types.{at_types as at_types_in};
+ghost use Rattle.core_terms.specs.View.{constructor_view, datatype_view};
+ghost use Rattle.core_typing.specs.Faults.{mismatch as mismatch_at};
+ghost use Rattle.core_typing.specs.PatternFaults.{untold};
+ghost use Rattle.core_typing.specs.Scopes.{normal_of as normal_in};
+ghost use Rattle.judgements.specs.View.{bound_tree, locals_view, sc_view};
+ghost use Rattle.pattern_rules.specs.Binds as computed;
+ghost use Rattle.pattern_rules.specs.View.{data_tree};
+ghost use Rattle.type_faults.specs.View.{fault_tree};
 
 use crate::binds::AtData;
 use con_terms::con::{Con, Cons};
@@ -14,7 +27,9 @@ use type_faults::{Fault, Name};
 use type_makers::forms::{applied, arrow};
 
 /// A datatype's type at arguments of which nothing is told.
-fn untold_type(alloc: Global, d: Sym, count: usize) -> Result<Con, AllocError> {
+fn untold_type(alloc: Global, d: Sym, count: usize) -> Result<Con, AllocError>
+    ensures { IfOk result (λ c. con_tree c ≡ at_types_in (basic d.number) (untold count)) }
+{
     let mut built = Con::Basic(d);
     for _ in 0..count {
         built = applied(alloc, built, Con::UnitCon)?;
@@ -31,13 +46,19 @@ fn other_data(
     d: Sym,
     datatype: &Datatype,
     n: Con,
-) -> Result<AtData, AllocError> {
+) -> Result<AtData, AllocError>
+    ensures { IfOk result (λ r. data_tree r ≡
+        computed.other_data (sc_view g.now s.now) p d.number (datatype_view datatype.now) (con_tree n)) }
+{
     let found = untold_type(alloc, d, datatype.parameters.len())?;
     Ok(AtData::Bad(other_form(alloc, g, s, p, n, found)?))
 }
 
 /// What a constructor holds, at a datatype's arguments.
-fn held_data(alloc: Global, n: Con, args: &Cons, c: &Constructor) -> Result<AtData, AllocError> {
+fn held_data(alloc: Global, n: Con, args: &Cons, c: &Constructor) -> Result<AtData, AllocError>
+    ensures { IfOk result (λ r. data_tree r ≡ computed.held_data (con_tree n) (con_list (cons_tree args.now))
+        (constructor_view c.now).holds) }
+{
     match &c.holds {
         None => Ok(AtData::Bare(n)),
         Some(held) => Ok(AtData::Holding(n, held_type(alloc, args, held)?)),
@@ -54,7 +75,10 @@ fn formed_data(
     datatype: &Datatype,
     c: &Constructor,
     n: Con,
-) -> Result<AtData, AllocError> {
+) -> Result<AtData, AllocError>
+    ensures { IfOk result (λ r. data_tree r ≡ computed.formed_data (sc_view g.now s.now) p d.number
+        (datatype_view datatype.now) (constructor_view c.now) (Some (con_tree n))) }
+{
     match see(alloc, &g.datatypes, &n)? {
         Seen::Data(e, args) => {
             if e.symbol.number == d.number {
@@ -77,7 +101,10 @@ pub fn data_at(
     d: Sym,
     j: u32,
     t: &Con,
-) -> Result<AtData, AllocError> {
+) -> Result<AtData, AllocError>
+    ensures { IfOk result (λ r. data_tree r ≡
+        computed.data_at (sc_view g.now s.now) p d.number j (con_tree t.now)) }
+{
     match datatype_named(g, d) {
         None => Ok(AtData::Bad(Fault::Unbound(p, Name::Constructor(d, j)))),
         Some(datatype) => match constructor_named(datatype, j) {
@@ -98,7 +125,10 @@ fn held_more(
     p: Place,
     n: Con,
     held: &Con,
-) -> Result<Fault, AllocError> {
+) -> Result<Fault, AllocError>
+    ensures { IfOk result (λ f. fault_tree f ≡ computed.held_more (sc_view g.now s.now) p (con_tree n)
+        (normal_in (con_tree held.now))) }
+{
     match normal_of(alloc, held)? {
         None => Ok(Fault::TooLarge(p)),
         Some(m) => {
@@ -117,7 +147,10 @@ pub fn bare_binding(
     p: Place,
     at: AtData,
     locals: &std::rc::Rc<judgements::Locals>,
-) -> Result<Bound, AllocError> {
+) -> Result<Bound, AllocError>
+    ensures { IfOk result (λ b. bound_tree b ≡
+        computed.bare_binding (sc_view g.now s.now) (locals_view locals.now.value) p (data_tree at)) }
+{
     match at {
         AtData::Bad(f) => Ok(Bound::Bad(f)),
         AtData::Bare(_) => Ok(Bound::Under(locals.clone()?)),
@@ -132,7 +165,10 @@ pub fn held_less(
     s: &Here,
     p: Place,
     n: Con,
-) -> Result<Fault, AllocError> {
+) -> Result<Fault, AllocError>
+    ensures { IfOk result (λ f. fault_tree f ≡ mismatch_at p (sc_view g.now s.now).called
+        (tree.arrow tree.unit_con (con_tree n)) (con_tree n)) }
+{
     let wanted = arrow(alloc, Con::UnitCon, copied(alloc, &n)?)?;
     other_form(alloc, g, s, p, wanted, n)
 }

@@ -1,4 +1,12 @@
 //! Fields of record patterns, among the pieces of a row.
+ghost use Rattle.std.specs.Prelude.{◌≡◌, IfOk};
+ghost use Rattle.con_terms.specs.View.{con_tree};
+ghost use Rattle.core_typing.specs.PatternFaults.{left_over as left_over_of};
+ghost use Rattle.judgements.specs.View.{bound_tree, cons_view, sc_view};
+ghost use Rattle.pattern_rules.specs.Binds as computed;
+ghost use Rattle.pattern_rules.specs.View.{fields_tree};
+ghost use Rattle.told_faults.specs.Computed.{sooner as sooner_in};
+ghost use Rattle.type_faults.specs.View.{fault_tree};
 
 use crate::binds::FieldsBound;
 use con_terms::con::{Con, Cons};
@@ -10,7 +18,9 @@ use type_makers::forms::record;
 use type_makers::types::{one_field, unit_type};
 
 /// The record of the pieces that are left of a row.
-fn left_over(alloc: Global, rest: Cons) -> Result<Con, AllocError> {
+fn left_over(alloc: Global, rest: Cons) -> Result<Con, AllocError>
+    ensures { IfOk result (λ c. con_tree c ≡ left_over_of (cons_view rest)) }
+{
     let row = row_of_rest(alloc, rest)?;
     record(alloc, row)
 }
@@ -23,7 +33,10 @@ pub fn no_field_there(
     p: Place,
     m: Con,
     pieces: Cons,
-) -> Result<Fault, AllocError> {
+) -> Result<Fault, AllocError>
+    ensures { IfOk result (λ f. fault_tree f ≡
+        computed.no_field_there (sc_view g.now s.now) p (con_tree m) (cons_view pieces)) }
+{
     let wanted = left_over(alloc, pieces)?;
     let row = one_field(alloc, m, Con::UnitCon)?;
     let found = record(alloc, row)?;
@@ -31,7 +44,9 @@ pub fn no_field_there(
 }
 
 /// Whether a place stands before another: by file, and then by byte.
-fn sooner(p: Place, q: Place) -> bool {
+fn sooner(p: Place, q: Place) -> bool
+    ensures { result ≡ sooner_in p q }
+{
     if p.file < q.file {
         true
     } else if q.file < p.file {
@@ -42,7 +57,9 @@ fn sooner(p: Place, q: Place) -> bool {
 }
 
 /// The earlier of two faults; of two at one place the first.
-pub fn earlier(f: Fault, h: Fault) -> Fault {
+pub fn earlier(f: Fault, h: Fault) -> Fault
+    ensures { fault_tree result ≡ computed.earlier (fault_tree f) (fault_tree h) }
+{
     if sooner(place_of(&h), place_of(&f)) {
         h
     } else {
@@ -59,11 +76,14 @@ pub fn whole_binding(
     p: Place,
     more: bool,
     fields: FieldsBound,
-) -> Result<Bound, AllocError> {
+) -> Result<Bound, AllocError>
+    ensures { IfOk result
+        (λ b. bound_tree b ≡ computed.whole_binding (sc_view g.now s.now) p more (fields_tree fields)) }
+{
     match fields {
         FieldsBound::Bad(f) => Ok(Bound::Bad(f)),
         FieldsBound::Bound(rest, locals) => {
-            if more || rest.items.len() == 0 {
+            if more || rest.len() == 0 {
                 return Ok(Bound::Under(locals));
             }
             let wanted = left_over(alloc, rest)?;

@@ -19,3 +19,5 @@ mod rounds;
 pub mod same;
 mod steps;
 pub mod written;
+
+pub use order::ordered;

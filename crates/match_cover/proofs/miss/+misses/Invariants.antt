@@ -1,5 +1,20 @@
-use Rattle.std.proofs.Common.{◌+◌, ◌*◌}
+use Rattle.std.proofs.Common.{◌≡◌, ◌-◌, drop, map, ◌+◌, ◌*◌}
+use Rattle.con_terms.specs.Trees.{con_list}
+use Rattle.con_terms.specs.View.{cons_tree}
+use Rattle.core_terms.specs.View.{constructor_view, datatype_view}
+use Rattle.match_cover.specs.Misses.{built_cases, literals, literal_count, misses}
+use Rattle.match_cover.specs.View.{columns_view, rows_view}
 use Rattle.match_cover.proofs.miss.+misses.Given as goal
+
+abbrev pub invariant-by_literals-loop-z : goal.invariant-by_literals-loop-z
+invariant-by_literals-loop-z l =
+    literals (misses (map datatype_view l.datatypes.items) l.room (columns_view l.rest.value)) l.words (rows_view l.rows) (literal_count - l.z) l.z
+    ≡ literals (misses (map datatype_view l.datatypes.items) l.room (columns_view l.rest.value)) l.words (rows_view l.rows) literal_count 0
+
+abbrev pub invariant-by_constructors-loop-j : goal.invariant-by_constructors-loop-j
+invariant-by_constructors-loop-j l =
+    built_cases (map datatype_view l.datatypes.items) (misses (map datatype_view l.datatypes.items) l.room) l.depth l.d.symbol.number (con_list (cons_tree l.args)) (columns_view l.rest.value) (rows_view l.rows) (map constructor_view (drop l.j l.d.constructors.items.items)) l.j
+    ≡ built_cases (map datatype_view l.datatypes.items) (misses (map datatype_view l.datatypes.items) l.room) l.depth l.d.symbol.number (con_list (cons_tree l.args)) (columns_view l.rest.value) (rows_view l.rows) (map constructor_view l.d.constructors.items.items) 0
 
 abbrev pub decreases-misses : goal.decreases-misses
 decreases-misses l = 16 * l.room
@@ -9,6 +24,9 @@ decreases-behind l = 16 * l.room + 1
 
 abbrev pub decreases-try_shape : goal.decreases-try_shape
 decreases-try_shape l = 16 * l.room + 2
+
+abbrev pub decreases-at_inside : goal.decreases-at_inside
+decreases-at_inside l = 16 * l.room + 1
 
 abbrev pub decreases-at_holding : goal.decreases-at_holding
 decreases-at_holding l = 16 * l.room + 3
