@@ -5,6 +5,7 @@
 #![tactic(auto)]
 
 mod carried;
+pub mod laws;
 mod pages;
 
 pub use carried::{Carriers, can_carry, can_fill, carriers_of};

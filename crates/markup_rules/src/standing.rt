@@ -1,18 +1,26 @@
 //! Where an element stands, its rows, and its field's name.
+ghost use Rattle.std.specs.Prelude.{◌≡◌, IfOk};
+ghost use Rattle.con_terms.specs.View.{con_tree};
+ghost use Rattle.core_terms.specs.View.{maybe_con, maybe_name};
+ghost use Rattle.judgements.specs.View.{sc_view};
+ghost use Rattle.markup_rules.specs.Standing as computed;
+ghost use Rattle.markup_rules.specs.View.{around_view, position_tree};
+ghost use Rattle.type_faults.specs.View.{maybe_fault};
+ghost use Rattle.type_makers.specs.Standing.{sort_view, where_of};
+
 use con_terms::con::Con;
-use con_terms::copy::copy_con;
 use con_terms::kind::Kind;
 use con_terms::place::Place;
-use core_terms::{Element, InputName};
-use judgements::{Globals, Here, is_alike, kind_flaw, normal_of, other_form, wants};
+use core_terms::InputName;
+use judgements::{Globals, Here, copied, is_alike, kind_flaw, normal_of, other_form, wants};
 use std::alloc::{AllocError, Global};
 use type_faults::{Fault, Name, first};
 use type_makers::forms::row_kind;
-use type_makers::tags::{Standing, TagSort, context_row, sort_of, stands};
+use type_makers::tags::{Standing, TagSort, context_row};
 use type_makers::types::{no_types, one_field};
 
-/// Whether a form is around an element, where it stands as its tag does.
-#[derive(Drop)]
+/// Whether a form is around an element, where it stands as its tag does. Contracts see it as `around_view`.
+#[derive(Clone, Copy)]
 pub enum Around {
     Form,
     NoForm,
@@ -21,7 +29,9 @@ pub enum Around {
 }
 
 /// Whether a form is around a context, where it is one of a standing.
-fn around_of(alloc: Global, standing: Standing, context: &Con) -> Result<Around, AllocError> {
+fn around_of(alloc: Global, standing: Standing, context: &Con) -> Result<Around, AllocError>
+    ensures { IfOk result (λ r. around_view r ≡ computed.around_of (where_of standing) (con_tree context.now)) }
+{
     let plain = context_row(alloc, standing, false)?;
     if is_alike(alloc, &plain, context)? {
         return Ok(Around::NoForm);
@@ -33,24 +43,49 @@ fn around_of(alloc: Global, standing: Standing, context: &Con) -> Result<Around,
     Ok(Around::Elsewhere)
 }
 
-/// What is told where a context isn't the one of a body with a form around, or without.
-fn in_body(
+/// What is told where a context isn't the one of a place with a form around, or without.
+fn context_told(
     alloc: Global,
     g: &Globals,
     s: &Here,
     p: Place,
+    standing: Standing,
     in_form: bool,
     context: &Con,
-) -> Result<Option<Fault>, AllocError> {
-    let wanted = context_row(alloc, Standing::Body, in_form)?;
+) -> Result<Option<Fault>, AllocError>
+    ensures { IfOk result
+        (λ o. maybe_fault o ≡ computed.context_told (sc_view g.now s.now) p (where_of standing) in_form
+        (con_tree context.now)) }
+{
+    let wanted = context_row(alloc, standing, in_form)?;
     wants(alloc, g, s, p, &wanted, context)
 }
 
-/// Where an element stands, and what is told of it.
+/// Where an element stands, and what is told of it. Contracts see it as `position_tree`.
 #[derive(Drop)]
 pub struct Position {
     pub around: Around,
     pub told: Option<Fault>,
+}
+
+/// What is told of an element that stands elsewhere.
+fn elsewhere_told(
+    alloc: Global,
+    g: &Globals,
+    s: &Here,
+    p: Place,
+    standing: Standing,
+    context: &Con,
+    around: Around,
+) -> Result<Option<Fault>, AllocError>
+    ensures { IfOk result
+        (λ o. maybe_fault o ≡ computed.elsewhere_told (sc_view g.now s.now) p (where_of standing)
+        (con_tree context.now) (around_view around)) }
+{
+    match around {
+        Around::Elsewhere => context_told(alloc, g, s, p, standing, false, context),
+        _ => Ok(None),
+    }
 }
 
 /// Where an element stands that may have a form around it or not.
@@ -59,21 +94,16 @@ fn either_way(
     g: &Globals,
     s: &Here,
     p: Place,
-    e: &Element,
-) -> Result<Position, AllocError> {
-    let standing = stands(e.tag);
-    let where_it_is = around_of(alloc, standing, &e.context)?;
-    let told = match &where_it_is {
-        Around::Elsewhere => {
-            let wanted = context_row(alloc, standing, false)?;
-            wants(alloc, g, s, p, &wanted, &e.context)?
-        }
-        _ => None,
-    };
-    Ok(Position {
-        around: where_it_is,
-        told,
-    })
+    standing: Standing,
+    context: &Con,
+) -> Result<Position, AllocError>
+    ensures { IfOk result
+        (λ r. position_tree r ≡ computed.either_way (sc_view g.now s.now) p (where_of standing)
+        (con_tree context.now)) }
+{
+    let around = around_of(alloc, standing, context)?;
+    let told = elsewhere_told(alloc, g, s, p, standing, context, around)?;
+    Ok(Position { around, told })
 }
 
 /// A form, which has none around it and before which no field is filled.
@@ -82,61 +112,127 @@ fn form_stands(
     g: &Globals,
     s: &Here,
     p: Place,
-    e: &Element,
-) -> Result<Position, AllocError> {
-    let outside = in_body(alloc, g, s, p, false, &e.context)?;
+    context: &Con,
+    uses: &Con,
+) -> Result<Position, AllocError>
+    ensures { IfOk result
+        (λ r. position_tree r ≡ computed.form_stands (sc_view g.now s.now) p (con_tree context.now)
+        (con_tree uses.now)) }
+{
+    let outside = context_told(alloc, g, s, p, Standing::Body, false, context)?;
     let wanted = no_types(alloc)?;
-    let filled = wants(alloc, g, s, p, &wanted, &e.uses)?;
+    let filled = wants(alloc, g, s, p, &wanted, uses)?;
     Ok(Position {
         around: Around::Form,
         told: first(outside, filled),
     })
 }
 
-/// Where an element stands.
-pub fn element_stands(
+/// An input or a button, which stands in a form.
+fn inside_form(
     alloc: Global,
     g: &Globals,
     s: &Here,
     p: Place,
-    e: &Element,
-) -> Result<Position, AllocError> {
-    match sort_of(e.tag) {
-        TagSort::Form => form_stands(alloc, g, s, p, e),
-        TagSort::TextInput | TagSort::TruthInput | TagSort::Button => Ok(Position {
-            around: Around::Form,
-            told: in_body(alloc, g, s, p, true, &e.context)?,
-        }),
-        _ => either_way(alloc, g, s, p, e),
+    context: &Con,
+) -> Result<Position, AllocError>
+    ensures { IfOk result
+        (λ r. position_tree r ≡ computed.inside_form (sc_view g.now s.now) p (con_tree context.now)) }
+{
+    Ok(Position {
+        around: Around::Form,
+        told: context_told(alloc, g, s, p, Standing::Body, true, context)?,
+    })
+}
+
+/// Where an element stands.
+pub fn stands_by(
+    alloc: Global,
+    g: &Globals,
+    s: &Here,
+    p: Place,
+    context: &Con,
+    uses: &Con,
+    standing: Standing,
+    sort: TagSort,
+) -> Result<Position, AllocError>
+    ensures { IfOk result
+        (λ r. position_tree r ≡ computed.stands_by (sc_view g.now s.now) p (con_tree context.now) (con_tree uses.now)
+        (where_of standing) (sort_view sort)) }
+{
+    match sort {
+        TagSort::Form => form_stands(alloc, g, s, p, context, uses),
+        TagSort::TextInput => inside_form(alloc, g, s, p, context),
+        TagSort::TruthInput => inside_form(alloc, g, s, p, context),
+        TagSort::Button => inside_form(alloc, g, s, p, context),
+        TagSort::Holding(_) => either_way(alloc, g, s, p, standing, context),
+        TagSort::Words => either_way(alloc, g, s, p, standing, context),
+        TagSort::Empty => either_way(alloc, g, s, p, standing, context),
     }
 }
 
-/// What the kinds of an element's rows tell.
+/// What the kinds of an element's or a literal's rows tell: of the row of its place, and of the fields filled before
+/// it.
 pub fn rows_told(
     alloc: Global,
     g: &Globals,
     s: &Here,
     p: Place,
-    e: &Element,
-) -> Result<Option<Fault>, AllocError> {
-    let context = kind_flaw(alloc, g, s, p, &e.context, &row_kind(alloc, Kind::Units)?)?;
-    let uses = kind_flaw(alloc, g, s, p, &e.uses, &row_kind(alloc, Kind::Types)?)?;
-    Ok(first(context, uses))
+    context: &Con,
+    uses: &Con,
+) -> Result<Option<Fault>, AllocError>
+    ensures { IfOk result
+        (λ o. maybe_fault o ≡ computed.rows_told (sc_view g.now s.now) p (con_tree context.now)
+        (con_tree uses.now)) }
+{
+    let units = row_kind(alloc, Kind::Units)?;
+    let of_context = kind_flaw(alloc, g, s, p, context, &units)?;
+    let types = row_kind(alloc, Kind::Types)?;
+    let of_uses = kind_flaw(alloc, g, s, p, uses, &types)?;
+    Ok(first(of_context, of_uses))
 }
 
 /// What is told of a field's name on another tag than an input's.
-fn name_on_other(
+fn other_name(
     alloc: Global,
     g: &Globals,
     s: &Here,
-    n: &InputName,
-) -> Result<Option<Fault>, AllocError> {
-    match normal_of(alloc, &n.name)? {
-        None => Ok(Some(Fault::TooLarge(n.place))),
+    q: Place,
+    name: &Con,
+) -> Result<Option<Fault>, AllocError>
+    ensures { IfOk result
+        (λ o. maybe_fault o ≡ computed.other_name_of (sc_view g.now s.now) q (con_tree name.now)) }
+{
+    match normal_of(alloc, name)? {
+        None => Ok(Some(Fault::TooLarge(q))),
         Some(m) => {
             let found = one_field(alloc, m, Con::UnitCon)?;
             let wanted = no_types(alloc)?;
-            Ok(Some(other_form(alloc, g, s, n.place, wanted, found)?))
+            Ok(Some(other_form(alloc, g, s, q, wanted, found)?))
+        }
+    }
+}
+
+/// What is told of the name of a field, which an input fills or not.
+fn name_by(
+    alloc: Global,
+    g: &Globals,
+    s: &Here,
+    q: Place,
+    name: &Con,
+    is_input: bool,
+) -> Result<Option<Fault>, AllocError>
+    ensures { IfOk result
+        (λ o. maybe_fault o ≡ computed.name_at (sc_view g.now s.now) q (con_tree name.now) is_input) }
+{
+    match kind_flaw(alloc, g, s, q, name, &Kind::Names)? {
+        Some(f) => Ok(Some(f)),
+        None => {
+            if is_input {
+                Ok(None)
+            } else {
+                other_name(alloc, g, s, q, name)
+            }
         }
     }
 }
@@ -147,10 +243,13 @@ pub fn name_told(
     g: &Globals,
     s: &Here,
     p: Place,
-    e: &Element,
-) -> Result<Option<Fault>, AllocError> {
-    let is_input = matches!(sort_of(e.tag), TagSort::TextInput | TagSort::TruthInput);
-    match &e.field {
+    is_input: bool,
+    field: &Option<InputName>,
+) -> Result<Option<Fault>, AllocError>
+    ensures { IfOk result
+        (λ o. maybe_fault o ≡ computed.name_told (sc_view g.now s.now) p is_input (maybe_name field.now)) }
+{
+    match field {
         None => {
             if is_input {
                 Ok(Some(Fault::Unbound(p, Name::InputName)))
@@ -158,25 +257,33 @@ pub fn name_told(
                 Ok(None)
             }
         }
-        Some(n) => match kind_flaw(alloc, g, s, n.place, &n.name, &Kind::Names)? {
-            Some(f) => Ok(Some(f)),
-            None => {
-                if is_input {
-                    Ok(None)
-                } else {
-                    name_on_other(alloc, g, s, n)
-                }
-            }
-        },
+        Some(n) => name_by(alloc, g, s, n.place, &n.name, is_input),
+    }
+}
+
+/// Whether a tag is an input's.
+pub fn is_input(sort: TagSort) -> bool
+    ensures { result ≡ computed.is_input (sort_view sort) }
+{
+    match sort {
+        TagSort::TextInput => true,
+        TagSort::TruthInput => true,
+        _ => false,
     }
 }
 
 /// The field that an input fills, as a row.
-pub fn field_row_of(alloc: Global, e: &Element, t: Con) -> Result<Option<Con>, AllocError> {
-    match &e.field {
+pub fn field_row_of(
+    alloc: Global,
+    field: &Option<InputName>,
+    t: Con,
+) -> Result<Option<Con>, AllocError>
+    ensures { IfOk result (λ o. maybe_con o ≡ computed.field_row (maybe_name field.now) (con_tree t)) }
+{
+    match field {
         None => Ok(None),
         Some(n) => {
-            let name = copy_con(alloc, &n.name)?;
+            let name = copied(alloc, &n.name)?;
             Ok(Some(one_field(alloc, name, t)?))
         }
     }

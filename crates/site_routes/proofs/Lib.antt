@@ -1,0 +1,10 @@
+pub mod Steps
+pub mod Fields
+pub mod ShapedMeans
+pub mod Shaped
+pub mod Names
+pub mod Members
+pub mod Marks
+pub mod Taken
+pub mod Listed
+pub mod Before

@@ -1,0 +1,5 @@
+pub mod Shaping
+pub mod Linked
+pub mod Marking
+pub mod Taking
+pub mod View
