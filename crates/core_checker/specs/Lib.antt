@@ -1,1 +1,5 @@
 pub mod Refusals
+pub mod Parts
+pub mod Twice
+pub mod Declarations
+pub mod View

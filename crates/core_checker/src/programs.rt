@@ -1,9 +1,13 @@
 //! A whole program: kept where no fault is told, given back with the fault where one is.
-ghost use Rattle.std.specs.Prelude.{◌≡◌, IfOk, IfErr};
+ghost use Rattle.std.specs.Prelude.{◌≡◌, IfErr, IfOk, None};
 ghost use Rattle.core_checker.specs.Refusals.{GivesBack};
+ghost use Rattle.core_terms.specs.View.{program_view};
+ghost use Rattle.core_typing.specs.Accepts.{Accepts, Formed};
 
-use crate::declarations::fault_told;
+use crate::told::fault_told;
 use core_terms::Program;
+use core_typing::laws::what_is_found_is_accepted;
+use program_forms::is_formed;
 use std::alloc::{AllocError, Global};
 use type_faults::Fault;
 
@@ -32,12 +36,25 @@ impl From<AllocError> for CheckFault {
     }
 }
 
-/// The program, where no fault is told of it. A refusal gives it back with the fault that is told.
+/// The fault that is told of a program; one of which none is told is accepted.
+fn told(alloc: Global, p: &Program) -> Result<Option<Fault>, AllocError>
+    ensures { IfOk result (λ o. o ≡ None → Formed (program_view p.now) → Accepts (program_view p.now)) }
+{
+    what_is_found_is_accepted();
+    fault_told(alloc, p)
+}
+
+/// The program, where it is formed and no fault is told of it: then it is accepted. A refusal gives it back with the
+/// fault that is told. One that isn't formed counts as want of memory, since no elaborator of this repository builds one.
 pub fn checked(alloc: Global, p: Program) -> Result<Program, CheckFault>
     ensures kept { IfOk result (λ q. q ≡ p) }
+    ensures accepted { IfOk result (λ q. Accepts (program_view q)) }
     ensures given_back { IfErr result (λ e. GivesBack p e) }
 {
-    match fault_told(alloc, &p)? {
+    if !is_formed(alloc, &p)? {
+        return Err(CheckFault::Memory);
+    }
+    match told(alloc, &p)? {
         None => Ok(p),
         Some(fault) => {
             let refused = Box::new(alloc, Refused { program: p, fault }).map_err(AllocError::from)?;

@@ -1,5 +1,19 @@
 //! The scopes that terms open: under patterns, under guards, and behind the declarations of a `let`.
+ghost use Rattle.std.specs.Prelude.{◌≡◌, ◌∷◌, [], IfOk};
+ghost use Rattle.con_terms.specs.View.{con_tree};
+ghost use Rattle.core_checker.specs.Parts.{inner_tree};
+ghost use Rattle.core_terms.specs.View.{named_list_tree, named_tree, pat_tree};
+ghost use Rattle.core_typing.specs.Scopes.{under};
+ghost use Rattle.core_typing.specs.Typed.{named_types};
+ghost use Rattle.judged_terms.specs.Listed.{name_found, named_found};
+ghost use Rattle.judged_terms.specs.Openings.{guard_scope, pattern_scope};
+ghost use Rattle.judgements.specs.View.{judged_tree, sc_view};
+ghost use Rattle.markup_rules.specs.View.{judgements_view};
+ghost use Rattle.node_rules.specs.Locals.{none_yet as none_found};
+ghost use Rattle.node_rules.specs.View.{found_tree};
+
 use crate::lists::{with_named, with_names};
+use crate::places::named_con;
 use con_terms::con::Con;
 use con_terms::place::Place;
 use core_terms::{Named, NamedList, Pat};
@@ -15,7 +29,7 @@ use type_faults::Fault;
 /// How deep patterns may be nested.
 const NESTED: u32 = 1_200;
 
-/// A scope that a term opens, or what is told of that which opens it.
+/// A scope that a term opens, or what is told of that which opens it. Contracts see it as `inner_tree`.
 #[derive(Drop)]
 pub enum Inner {
     Under(Here),
@@ -29,7 +43,10 @@ pub fn under_pattern(
     s: &Here,
     q: &Pat,
     t: &Con,
-) -> Result<Inner, AllocError> {
+) -> Result<Inner, AllocError>
+    ensures { IfOk result
+        (λ r. inner_tree g.now r ≡ pattern_scope (sc_view g.now s.now) (pat_tree q.now) (con_tree t.now)) }
+{
     match binding(alloc, g, s, q, t, &s.locals, NESTED)? {
         Bound::Bad(f) => Ok(Inner::Bad(f)),
         Bound::Under(locals) => Ok(Inner::Under(with_locals(s, locals)?)),
@@ -44,7 +61,10 @@ pub fn under_sides(
     p: Place,
     c: &Con,
     d: &Con,
-) -> Result<Inner, AllocError> {
+) -> Result<Inner, AllocError>
+    ensures { IfOk result
+        (λ r. inner_tree g.now r ≡ guard_scope (sc_view g.now s.now) p (con_tree c.now) (con_tree d.now)) }
+{
     match guard_sides(alloc, s, c, d)? {
         Err(flaw) => Ok(Inner::Bad(flaw_at(alloc, g, s, p, flaw)?)),
         Ok(sides) => Ok(Inner::Under(under_guard(alloc, s, &sides.left, &sides.right)?)),
@@ -52,10 +72,14 @@ pub fn under_sides(
 }
 
 /// The scope under the names that are declared together.
-pub fn under_names(alloc: Global, s: &Here, ns: &NamedList) -> Result<Here, AllocError> {
+#[tactic(auto, using(crate::proofs::Listed::types_step, crate::proofs::Listed::types_start, crate::proofs::Listed::types_end))]
+pub fn under_names(alloc: Global, s: &Here, ns: &NamedList) -> Result<Here, AllocError>
+    ensures { IfOk result
+        (λ r. (g : _) → sc_view g r ≡ under (named_types (named_list_tree ns.now)) (sc_view g s.now)) }
+{
     let mut locals = s.locals.clone()?;
-    for i in 0..ns.items.len() {
-        locals = with_local(alloc, copied(alloc, &ns.items[i].con)?, &locals)?;
+    for i in 0..ns.len() {
+        locals = with_local(alloc, copied(alloc, named_con(ns.at(i)))?, &locals)?;
     }
     with_locals(s, locals)
 }
@@ -68,7 +92,10 @@ pub struct Behind {
 }
 
 /// Before the first declaration of a `let`.
-pub fn before_all(s: &Here) -> Result<Behind, AllocError> {
+pub fn before_all(s: &Here) -> Result<Behind, AllocError>
+    ensures here { IfOk result (λ r. (g : _) → sc_view g r.here ≡ sc_view g s.now) }
+    ensures past { IfOk result (λ r. found_tree r.past ≡ none_found) }
+{
     Ok(Behind {
         here: with_locals(s, s.locals.clone()?)?,
         past: none_yet(),
@@ -82,10 +109,19 @@ pub fn behind_value(
     before: Behind,
     n: &Named,
     found: Judged,
-) -> Result<Behind, AllocError> {
+) -> Result<Behind, AllocError>
+    ensures here { IfOk result
+        (λ r. sc_view g.now r.here ≡ under ((named_tree n.now).3 ∷ []) (sc_view g.now before.here)) }
+    ensures past { IfOk result
+        (λ r. found_tree r.past ≡ name_found
+        (sc_view g.now before.here)
+        (named_tree n.now)
+        (judged_tree found)
+        (found_tree before.past)) }
+{
     let Behind { here, past } = before;
     let past = with_named(alloc, g, &here, n, found, past)?;
-    let locals = with_local(alloc, copied(alloc, &n.con)?, &here.locals)?;
+    let locals = with_local(alloc, copied(alloc, named_con(n))?, &here.locals)?;
     Ok(Behind {
         here: with_locals(&here, locals)?,
         past,
@@ -100,7 +136,15 @@ pub fn behind_values(
     inner: Here,
     ns: &NamedList,
     found: Judgements,
-) -> Result<Behind, AllocError> {
+) -> Result<Behind, AllocError>
+    ensures here { IfOk result (λ r. sc_view g.now r.here ≡ sc_view g.now inner) }
+    ensures past { IfOk result
+        (λ r. found_tree r.past ≡ named_found
+        (sc_view g.now before.here)
+        (named_list_tree ns.now)
+        (judgements_view found)
+        (found_tree before.past)) }
+{
     let Behind { here, past } = before;
     let past = with_names(alloc, g, &here, ns, found, past)?;
     Ok(Behind { here: inner, past })

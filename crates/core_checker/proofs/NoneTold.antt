@@ -1,0 +1,71 @@
+-- Where nothing is told.
+use Rattle.std.proofs.Common.{◌≡◌, Bool, true, false, [], Option, Some, None, Result, Ok, Err, IfOk, if◌then◌else◌, refl, ap, sym, ◌∙◌}
+use Rattle.core_terms.specs.Trees.{Pg}
+use Rattle.core_typing.specs.Accepts.{Accepts, EntriesDiffer, Formed}
+use Rattle.core_typing.specs.Faults as told
+use Rattle.core_typing.specs.Faults.{at}
+use Rattle.core_typing.specs.FoundProgram.{DeclsFound, FoundIsAccepted}
+use Rattle.told_faults.specs.Computed.{first, sooner}
+use Rattle.type_faults.specs.View.{maybe_fault}
+use Rattle.type_faults.specs.declared.fault.Fault.{Fault}
+use Rattle.node_rules.specs.Locals.{Ls}
+use Rattle.node_rules.specs.View.{found_tree}
+use Rattle.node_rules.specs.declared.lets.Found.{Found}
+use Rattle.judged_terms.specs.Laws.{Clean, DeclaredIsFound, NamesAreFound}
+use Rattle.core_checker.specs.Declarations.{ProgramJudges}
+use Rattle.core_checker.proofs.Declared.{decls_are_found}
+
+some_not : {X : Type 0} (x : X) → Some x ≡ None → ⊥
+some_not x h = cc
+
+one_of : {X : Type 0} (b : Bool) (f g : X) → (if b then Some g else Some f) ≡ None → ⊥
+one_of true f g h = some_not g h
+one_of false f g h = some_not f h
+
+neither_told : (k l : Option told.Fault) → first k l ≡ None → (k ≡ None) × (l ≡ None)
+neither_told None l h = (refl, h)
+neither_told (Some f) None h = absurd (some_not f h)
+neither_told (Some f) (Some g) h = absurd (one_of (sooner (at g) (at f)) f g h)
+
+no_fault : (e : Option Fault) → maybe_fault e ≡ None → e ≡ None
+no_fault None h = refl
+no_fault (Some f) h = absurd (some_not _ h)
+
+pub all_clean : {E : Type 0} (r : Found) (e later first_told : Option Fault) (o : Result (Option Fault) E) →
+    maybe_fault later ≡ first (maybe_fault r.own) (maybe_fault e) →
+    maybe_fault first_told ≡ first (maybe_fault r.kids) (maybe_fault later) →
+    IfOk o (λ x. x ≡ first_told) → IfOk o (λ x. x ≡ None → r.found ≡ true) →
+    IfOk o (λ x. x ≡ None → Clean (found_tree r))
+all_clean r e later t (Ok x) a b k f = λ n.
+    let (kids, rest) = neither_told (maybe_fault r.kids) (maybe_fault later) (sym b ∙ ap maybe_fault (sym k ∙ n)) in
+    let (own, entries) = neither_told (maybe_fault r.own) (maybe_fault e) (sym a ∙ rest) in
+    record { found = f n; kids = kids; own = own }
+all_clean r e later t (Err x) a b k f = tt
+
+pub no_entry : {E : Type 0} (r : Found) (e later first_told : Option Fault) (o : Result (Option Fault) E) →
+    maybe_fault later ≡ first (maybe_fault r.own) (maybe_fault e) →
+    maybe_fault first_told ≡ first (maybe_fault r.kids) (maybe_fault later) →
+    IfOk o (λ x. x ≡ first_told) → IfOk o (λ x. x ≡ None → e ≡ None)
+no_entry r e later t (Ok x) a b k = λ n.
+    let (kids, rest) = neither_told (maybe_fault r.kids) (maybe_fault later) (sym b ∙ ap maybe_fault (sym k ∙ n)) in
+    let (own, entries) = neither_told (maybe_fault r.own) (maybe_fault e) (sym a ∙ rest) in
+    no_fault e entries
+no_entry r e later t (Err x) a b k = tt
+
+pub where_none : {E A B : Type 0} (o : Result (Option Fault) E) → (A → B) →
+    IfOk o (λ x. x ≡ None → A) → IfOk o (λ x. x ≡ None → B)
+where_none (Ok x) f h = λ n. f (h n)
+where_none (Err x) f h = tt
+
+pub none_given : {A : Type 0} (e : Option Fault) → (maybe_fault e ≡ None → A) → e ≡ None → A
+none_given e h n = h (ap maybe_fault n)
+
+pub declared : {E : Type 0} (p : Pg) (r : Ls) (o : Result (Option Fault) E) → DeclaredIsFound → NamesAreFound → ProgramJudges p r →
+    IfOk o (λ x. x ≡ None → Clean r) → IfOk o (λ x. x ≡ None → DeclsFound p [] [] p.decls)
+declared p r o D N y h = where_none o (decls_are_found D N p r y) h
+
+pub accepted : {E : Type 0} (p : Pg) (o : Result (Option Fault) E) → FoundIsAccepted →
+    IfOk o (λ x. x ≡ None → DeclsFound p [] [] p.decls) → IfOk o (λ x. x ≡ None → EntriesDiffer p) →
+    IfOk o (λ x. x ≡ None → Formed p → Accepts p)
+accepted p (Ok x) law d e = λ n f. law p (record { formed = f; declarations = d n; entries = e n })
+accepted p (Err x) law d e = tt

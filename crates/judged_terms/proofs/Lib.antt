@@ -1,0 +1,11 @@
+pub mod Basics
+pub mod Names
+pub mod Functions
+pub mod Calls
+pub mod Lets
+pub mod Records
+pub mod Operations
+pub mod Cases
+pub mod Listed
+pub mod Markup
+pub mod Main

@@ -1,0 +1,4 @@
+pub mod Openings
+pub mod Listed
+pub mod Judge
+pub mod Laws

@@ -1,0 +1,9 @@
+use Rattle.std.proofs.Common.{map, drop}
+use Rattle.std.specs.List.{AllByRecursion}
+use Rattle.core_terms.specs.Leaves.{DeclFits}
+use Rattle.core_terms.specs.View.{decl_tree, decls_view}
+use Rattle.program_forms.proofs.declarations.decls_fit.Given as goal
+
+abbrev pub invariant-loop-i : goal.invariant-loop-i
+invariant-loop-i l =
+    AllByRecursion (DeclFits l.count) (map decl_tree (drop l.i l.ds.items.items)) → AllByRecursion (DeclFits l.count) (decls_view l.ds)
