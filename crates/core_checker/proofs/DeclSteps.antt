@@ -16,7 +16,7 @@ use Rattle.core_typing.specs.Scopes.{Sc, datatype_kinds, folder_kinds, under_con
 use Rattle.node_rules.specs.Locals.{Ls, none_yet, and_then_found}
 use Rattle.core_checker.specs.Declarations.{Gl, After, DeclsJudge, ProgramJudges, at_start, constructors_found, of_constructor, types_of}
 
-open_at : {X : Type 0} (xs : List X) (i : ℕ) (x : X) → x ≡ get_or xs i x → i < length xs → drop i xs ≡ x ∷ drop (i + 1) xs
+pub open_at : {X : Type 0} (xs : List X) (i : ℕ) (x : X) → x ≡ get_or xs i x → i < length xs → drop i xs ≡ x ∷ drop (i + 1) xs
 open_at xs i x e h = drop-cons xs i x h ∙ ap (λ y. y ∷ drop (suc i) xs) (sym e) ∙ ap (λ n. x ∷ drop n xs) (let p : suc i ≡ i + 1 = omega arith in p)
 
 -- kinds

@@ -26,7 +26,7 @@ use Rattle.core_checker.specs.Declarations.{Gl, scope_of, with_data, told_alone,
 abbrev pub state_with : Pg → List Cn → List Dt → Gl
 state_with p tops ds = record { tops = tops; datatypes = basis_datatypes ++ ds; folders = p.folders; effects = length p.foreigns }
 
-types_are : (path : List ℕ) (ns : Nms) → types_of ns ≡ value_types (named_values path ns)
+pub types_are : (path : List ℕ) (ns : Nms) → types_of ns ≡ value_types (named_values path ns)
 types_are path no_named = refl
 types_are path (named p x w t e ns) = ap (λ z. t ∷ z) (types_are path ns)
 
@@ -111,7 +111,7 @@ distinct [] h = tt
 distinct (c ∷ cs) h = (all_from (λ y. c.name ≡ y → ⊥) (map (λ (d : Cd). d.name) cs) (all_names c.name cs h.0), distinct cs h.1)
 
 -- a datatype in the scope of its own constructors
-data_scope : (p : Pg) (tops : List Cn) (before : List Dt) (d : Dt) → with_data d (state_with p tops before) ≡ state_with p tops (before ++ d ∷ [])
+pub data_scope : (p : Pg) (tops : List Cn) (before : List Dt) (d : Dt) → with_data d (state_with p tops before) ≡ state_with p tops (before ++ d ∷ [])
 data_scope p tops before d =
     ap (λ ds. record { tops = tops; datatypes = ds; folders = p.folders; effects = length p.foreigns }) (append_assoc basis_datatypes before (d ∷ []))
 

@@ -1,12 +1,10 @@
 -- Names and entries that are one.
-use Rattle.std.proofs.Common.{◌≡◌, ℕ, zero, suc, ◌+◌, ◌<◌, ◌≤◌, Bool, true, false, List, [], ◌∷◌, length, map, get_or, slice_get, option_map, Option, Some, None, refl, ap, sym, ◌∙◌, subst, arith, ◌⊎◌, inl, inr, if◌then◌else◌}
+use Rattle.std.proofs.Common.{◌≡◌, ℕ, zero, suc, ◌+◌, ◌<◌, ◌≤◌, Bool, true, false, List, [], ◌∷◌, length, map, get_or, slice_get, option_map, Some, refl, ap, sym, ◌∙◌, subst, arith, ◌⊎◌, inl, inr}
 use Rattle.std.specs.Bool.{Decides}
 use Rattle.std.proofs.lemmas.Option.{same_Some, slice_get-map, slice_get_read}
 use Rattle.link_router.specs.Calls.{Ent, is_post}
 use Rattle.link_router.specs.View.{entry_view}
 use Rattle.link_router.specs.declared.routes.Entry.{Entry}
-use Rattle.core_typing.specs.Faults.{Fault, at}
-use Rattle.told_faults.specs.Computed.{first, sooner}
 use Rattle.core_checker.specs.Twice.{SameCall, Twice}
 
 pub same_length : (a b : List (List ℕ)) → (length a ≡ length b → ⊥) → Decides false (a ≡ b)
@@ -30,26 +28,11 @@ other_method a b h = (λ e. absurd (cc), λ s. absurd (h s.0))
 pub one_method : (a b : Ent) (r : Bool) → is_post a.form ≡ is_post b.form → Decides r (a.name ≡ b.name) → Decides r (SameCall a b)
 one_method a b r e d = (λ h. (e, d.0 h), λ s. d.1 s.1)
 
-neither : (b : Bool) (f g : Fault) → (if b then Some g else Some f) ≡ None → ⊥
-neither true f g h = cc
-neither false f g h = cc
-
-both_none : (k l : Option Fault) → first k l ≡ None → (k ≡ None) × (l ≡ None)
-both_none None l h = (refl, h)
-both_none (Some f) None h = absurd (cc)
-both_none (Some f) (Some g) h = absurd (neither (sooner (at g) (at f)) f g h)
-
 below : (n j : ℕ) → n < j + 1 → (n < j) ⊎ (j ≡ n)
 below zero zero h = inr refl
 below zero (suc j) h = inl (omega arith)
 below (suc n) zero h = absurd (omega arith)
 below (suc n) (suc j) h = elim (below n j (omega arith)) [ inl l ↦ inl (omega arith) | inr e ↦ inr (ap suc e) ]
-
-pub told_more : (es : List Ent) (j : ℕ) (k l o : Option Fault) → o ≡ first k l → (k ≡ None → (n : ℕ) → n < j → Twice es n → ⊥) → (l ≡ None → Twice es j → ⊥) →
-    o ≡ None → (n : ℕ) → n < j + 1 → Twice es n → ⊥
-told_more es j k l o e f g h n m w =
-    let (a, b) = both_none k l (sym e ∙ h) in
-    elim (below n j m) [ inl c ↦ f a n c w | inr c ↦ g b (subst (Twice es) (sym c) w) ]
 
 -- the entries before a place
 pub twice_here : (es : List Ent) (i j : ℕ) (a b : Ent) → i < j → slice_get es i ≡ Some a → slice_get es j ≡ Some b → SameCall a b → Decides true (Twice es j)

@@ -6,3 +6,8 @@ pub mod Declared
 pub mod NoneTold
 pub mod EntryNames
 pub mod EntriesApart
+pub mod EntryFaults
+pub mod EntryPlaces
+pub mod ToldConstructors
+pub mod ToldDeclarations
+pub mod ToldPrograms

@@ -3,3 +3,4 @@ pub mod Parts
 pub mod Twice
 pub mod Declarations
 pub mod View
+pub mod Told

@@ -5,7 +5,8 @@
 //! declaration is its written type alone.
 //!
 //! Proved here: each call is safe and ends, what the walk finds for a term is what `judged_terms` defines, a program
-//! that is kept is the one that was given, and so is the program that a refusal gives back.
+//! that is kept is the one that was given, and so is the program that a refusal gives back; one that is kept is
+//! accepted, and tells no fault; and the fault of a refusal is the one that the program tells.
 #![tactic(auto)]
 
 mod declarations;

@@ -3,8 +3,11 @@ ghost use Rattle.std.specs.Prelude.{◌≡◌, [], IfOk, None, true};
 ghost use Rattle.core_terms.specs.View.{program_view};
 ghost use Rattle.core_typing.specs.Accepts.{EntriesDiffer};
 ghost use Rattle.core_typing.specs.FoundProgram.{DeclsFound};
+ghost use Rattle.core_checker.specs.Told.{IsTold};
 ghost use Rattle.judged_terms.specs.Laws.{Clean};
 ghost use Rattle.node_rules.specs.View.{found_tree};
+ghost use Rattle.told_faults.specs.Computed.{first as first_in};
+ghost use Rattle.type_faults.specs.View.{maybe_fault};
 
 use crate::declarations::declarations_found;
 use crate::entries::entries_told;
@@ -12,6 +15,7 @@ use core_terms::Program;
 use judged_terms::laws::declared_are_found;
 use node_rules::Found;
 use std::alloc::{AllocError, Global};
+use told_terms::laws::judged_is_told;
 use type_faults::{Fault, first};
 
 /// What is told; where nothing is told though not all is found, a type is too large to be found.
@@ -29,6 +33,8 @@ fn settled(is_found: bool, told: Option<Fault>) -> Result<Option<Fault>, AllocEr
 fn told_of(found: Found, entries: Option<Fault>) -> Result<Option<Fault>, AllocError>
     ensures clean { IfOk result (λ o. o ≡ None → Clean (found_tree found)) }
     ensures entries { IfOk result (λ o. o ≡ None → entries ≡ None) }
+    ensures earliest { IfOk result (λ o. maybe_fault o
+        ≡ first_in (found_tree found).kids (first_in (found_tree found).own (maybe_fault entries))) }
 {
     let Found {
         found: is_found,
@@ -46,8 +52,10 @@ pub fn fault_told(alloc: Global, p: &Program) -> Result<Option<Fault>, AllocErro
     ensures declarations { IfOk result
         (λ o. o ≡ None → DeclsFound (program_view p.now) [] [] (program_view p.now).decls) }
     ensures entries { IfOk result (λ o. o ≡ None → EntriesDiffer (program_view p.now)) }
+    ensures told { IfOk result (λ o. IsTold (program_view p.now) (maybe_fault o)) }
 {
     declared_are_found();
+    judged_is_told();
     let found = declarations_found(alloc, p)?;
     let entries = entries_told(alloc, p)?;
     told_of(found, entries)

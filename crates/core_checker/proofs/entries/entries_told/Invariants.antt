@@ -1,8 +1,9 @@
-use Rattle.std.proofs.Common.{◌≡◌, ℕ, ◌<◌, None, map}
+use Rattle.std.proofs.Common.{map}
 use Rattle.link_router.specs.View.{entry_view}
+use Rattle.told_faults.specs.Told.{Picks}
 use Rattle.type_faults.specs.View.{maybe_fault}
-use Rattle.core_checker.specs.Twice.{Twice}
+use Rattle.core_checker.specs.Twice.{ToldBefore}
 use Rattle.core_checker.proofs.entries.entries_told.Given as goal
 
 abbrev pub invariant-loop-j : goal.invariant-loop-j
-invariant-loop-j l = maybe_fault l.told ≡ None → (n : ℕ) → n < l.j → Twice (map entry_view l.entries.items) n → ⊥
+invariant-loop-j l = Picks (ToldBefore (map entry_view l.entries.items) l.places.items l.callees.items l.j) (maybe_fault l.told)
