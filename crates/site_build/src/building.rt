@@ -1,5 +1,7 @@
 //! Building a project, and a module alone, over any elaboration of terms: what it gives is checked.
-ghost use Rattle.std.specs.Prelude.{◌≡◌, ◌≤◌, IsErrOf};
+ghost use Rattle.std.specs.Prelude.{◌≡◌, ◌≤◌, IfOk, IsErrOf};
+ghost use Rattle.core_terms.specs.View.{program_view};
+ghost use Rattle.core_typing.specs.Accepts.{Accepts};
 ghost use Rattle.ur_outside.specs.Causes.{Rose};
 
 use crate::chain::site_of;
@@ -13,7 +15,8 @@ use surface_grammar::Tree;
 use table_rows::{Text, Texts};
 use ur_outside::Files;
 
-/// Builds the project in a folder. `objects` are the foreign modules that are there.
+/// Builds the project in a folder. `objects` are the foreign modules that are there. The program that it gives is
+/// accepted.
 pub fn build<T: Terms + Drop, F: Files>(
     alloc: Global,
     terms: &T,
@@ -24,6 +27,7 @@ pub fn build<T: Terms + Drop, F: Files>(
     ensures kept { F.told files.new ≡ F.told files.old }
     ensures later { F.faults files.old ≤ F.faults files.new }
     ensures failed { IsErrOf result BuildFault.ReadFault → Rose (F.faults files.old) (F.faults files.new) }
+    ensures accepted { IfOk result (λ s. Accepts (program_view s.program)) }
 {
     let sources = read_sources(alloc, files, dir, objects)?;
     match first_beyond(sources.modules.as_slice()) {
@@ -84,13 +88,14 @@ fn only(alloc: Global, tree: Tree) -> Result<Sources, AllocError> {
     Ok(Sources { project, modules })
 }
 
-/// Builds a module alone, as file `Main.ur`.
+/// Builds a module alone, as file `Main.ur`. The program that it gives is accepted.
 pub fn build_text<T: Terms + Drop>(
     alloc: Global,
     terms: &T,
     bytes: &[u8],
 ) -> Result<Site, BuildFault>
-    ensures { IsErrOf result BuildFault.ReadFault → ⊥ }
+    ensures told { IsErrOf result BuildFault.ReadFault → ⊥ }
+    ensures accepted { IfOk result (λ s. Accepts (program_view s.program)) }
 {
     let tree = main_tree(alloc, bytes)?;
     let sources = only(alloc, tree)?;

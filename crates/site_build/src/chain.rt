@@ -1,5 +1,7 @@
 //! From the trees of modules to their explicit program.
-ghost use Rattle.std.specs.Prelude.{◌≡◌, IsErrOf};
+ghost use Rattle.std.specs.Prelude.{◌≡◌, IfOk, IsErrOf};
+ghost use Rattle.core_terms.specs.View.{program_view};
+ghost use Rattle.core_typing.specs.Accepts.{Accepts};
 
 use crate::forms::are_built;
 use crate::names::{names_of, numbered_file};
@@ -130,7 +132,8 @@ fn elaborated<T: Terms + Drop>(
 
 /// The program, where the checker keeps it.
 fn kept(alloc: Global, modules: &[ModuleSource], program: Program) -> Result<Program, BuildFault>
-    ensures { IsErrOf result BuildFault.ReadFault → ⊥ }
+    ensures told { IsErrOf result BuildFault.ReadFault → ⊥ }
+    ensures accepted { IfOk result (λ p. Accepts (program_view p)) }
 {
     match checked(alloc, program) {
         Ok(program) => Ok(program),
@@ -148,7 +151,8 @@ pub(crate) fn site_of<T: Terms + Drop>(
     terms: &T,
     sources: &Sources,
 ) -> Result<Site, BuildFault>
-    ensures { IsErrOf result BuildFault.ReadFault → ⊥ }
+    ensures told { IsErrOf result BuildFault.ReadFault → ⊥ }
+    ensures accepted { IfOk result (λ s. Accepts (program_view s.program)) }
 {
     let modules = sources.modules.as_slice();
     are_built(alloc, modules)?;

@@ -1,16 +1,20 @@
 //! Sites: projects that were built.
+ghost use Rattle.std.specs.Prelude.{◌≡◌};
+
 use core_terms::Program;
 
 /// A project that was built.
 #[derive(Drop)]
 pub struct Site {
-    pub(crate) program: Program,
+    pub program: Program,
     pub(crate) explicit: String,
 }
 
 impl Site {
     /// The program.
-    pub fn program(&self) -> &Program {
+    pub fn program(&self) -> &Program
+        ensures { result.now ≡ self.now.program }
+    {
         &self.program
     }
 
