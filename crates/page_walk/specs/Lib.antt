@@ -1,3 +1,1 @@
 pub mod Walked
-pub mod Links
-pub mod Adding
