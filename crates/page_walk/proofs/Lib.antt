@@ -1,3 +1,12 @@
 pub mod Ends
 pub mod Doing
 pub mod Parts
+pub mod Meaning
+pub mod Added
+pub mod Texts
+pub mod Forms
+pub mod Whole
+pub mod Placed
+pub mod Cases
+pub mod Escapes
+pub mod Names

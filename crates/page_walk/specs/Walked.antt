@@ -1,49 +1,31 @@
 -- What the trees of a run are as trees of a page, and how many nodes they were put together of.
-use Rattle.std.specs.Prelude.{ℕ, suc, ◌+◌, List, [], ◌∷◌, map}
+use Rattle.std.specs.Prelude.{ℕ, suc, ◌+◌, List, [], ◌∷◌}
 use Rattle.xml_trees.specs.Trees.{Trees, Nothing, Words, Element, trees_and, Built, built_and, ended}
-use Rattle.xml_trees.specs.SourceNames.{page_tag}
-use Rattle.xml_trees.specs.declared.attrs.Attr.{Attr}
-use Rattle.run_values.specs.declared.page.Given.{Given}
+use Rattle.value_trees.specs.Values.{Page, words, joined, element, nothing}
+use Rattle.run_values.specs.View.{page_tree}
 use Rattle.run_values.specs.declared.page.Tree.{Tree}
-use Rattle.run_values.specs.declared.page.Tree.TheOpen.{Tree-F}
-use Rattle.run_values.specs.declared.page.Tree.TheFolds.{fold-Tree}
 use Rattle.page_walk.specs.declared.trees.Todo.{Todo}
 
--- an attribute of the page
-abbrev pub attribute : Given → Attr
-attribute (Given.Title t) = Attr.Title t.now
-attribute (Given.Link t) = Attr.Link t.now
-attribute (Given.Href t) = Attr.Href t.now
-attribute (Given.Src t) = Attr.Src t.now
-attribute (Given.Alt t) = Attr.Alt t.now
-attribute (Given.Border n) = Attr.Border n
-attribute (Given.Value t) = Attr.Value t.now
-attribute (Given.Size n) = Attr.Size n
-attribute (Given.Action t) = Attr.Action t.now
-
-abbrev pub trees_step : Tree-F Trees → Trees
-trees_step Tree-F.Nothing = Nothing
-trees_step (Tree-F.Words t) = Words t.now Nothing
-trees_step (Tree-F.Joined a b) = trees_and a.now b.now
-trees_step (Tree-F.Element tag field given inner) = Element (page_tag tag field.now) (map attribute given.now) inner.now Nothing
-
 -- the trees in order
-abbrev pub trees : Tree → Trees
-trees = fold-Tree Trees trees_step
-
-abbrev pub below_step : Tree-F ℕ → ℕ
-below_step Tree-F.Nothing = 0
-below_step (Tree-F.Words t) = 0
-below_step (Tree-F.Joined a b) = suc a.now + suc b.now
-below_step (Tree-F.Element tag field given inner) = suc inner.now
+abbrev pub trees_in : Page → Trees
+trees_in nothing = Nothing
+trees_in (words t) = Words t Nothing
+trees_in (joined p q) = trees_and (trees_in p) (trees_in q)
+trees_in (element tag attrs p) = Element tag attrs (trees_in p) Nothing
 
 -- the number of nodes below the first
-abbrev pub below : Tree → ℕ
-below = fold-Tree ℕ below_step
+abbrev pub below_in : Page → ℕ
+below_in nothing = 0
+below_in (words t) = 0
+below_in (joined p q) = suc (below_in p) + suc (below_in q)
+below_in (element tag attrs p) = suc (below_in p)
+
+abbrev pub trees : Tree → Trees
+trees t = trees_in (page_tree t)
 
 -- the number of nodes
 abbrev pub nodes : Tree → ℕ
-nodes t = suc (below t)
+nodes t = suc (below_in (page_tree t))
 
 -- what is built once one thing more is done
 abbrev pub done : Todo → Built → Built

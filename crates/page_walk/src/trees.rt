@@ -1,9 +1,12 @@
 //! The trees of a page, node by node.
 ghost use Rattle.std.specs.Prelude.{◌≡◌, suc, ◌+◌, ◌<◌, map, ◌⊎◌, IfOk, IfErr, OnOk};
-ghost use Rattle.xml_trees.specs.Trees.{Whole, Within, Nothing, built, built_and, ended};
+ghost use Rattle.xml_trees.specs.Trees.{Whole, Within, Nothing, built, built_and, ended, trees_of};
 ghost use Rattle.xml_trees.specs.SourceNames.{page_tag};
 ghost use Rattle.run_values.specs.declared.stop.Stop.{Stop};
-ghost use Rattle.page_walk.specs.Walked.{trees, nodes, attribute, all_done, nodes_left};
+ghost use Rattle.value_trees.specs.Values as meaning;
+ghost use Rattle.run_values.specs.Outcomes.{ComesTo};
+ghost use Rattle.run_values.specs.View.{attribute_tree, page_tree};
+ghost use Rattle.page_walk.specs.Walked.{trees, nodes, all_done, nodes_left};
 
 use crate::bound::count;
 use run_values::{Given, Stop, Tree, tick};
@@ -21,9 +24,22 @@ enum Todo<'r> {
     End,
 }
 
-#[tactic(auto, using(crate::proofs::Doing::last_is_first, crate::proofs::Doing::nodes_of_last))]
+#[tactic(auto, using(crate::proofs::Meaning::as_meant))]
 /// The page of trees as they were put together, with a step for each node.
 pub fn walked<'r>(alloc: Global, tree: &'r Tree<'r>, budget: &mut u64) -> Result<Page, Stop>
+    ensures means { ComesTo (λ page. trees_of (built page)) result budget.new
+        (meaning.walked (page_tree tree.now) budget.old) }
+    ensures page { IfOk result (λ page. built page ≡ Whole (trees tree.now)) }
+    ensures steps { OnOk result (budget.old ≡ nodes tree.now + budget.new) }
+    ensures stops { IfErr result (λ stop. (stop ≡ Stop.OverBudget) ⊎ (stop ≡ Stop.Memory)) }
+    ensures spent { IfErr result (λ stop. stop ≡ Stop.OverBudget → budget.old < nodes tree.now) }
+{
+    walked_through(alloc, tree, budget)
+}
+
+#[tactic(auto, using(crate::proofs::Doing::last_is_first, crate::proofs::Doing::nodes_of_last))]
+/// Walks the trees, node by node.
+fn walked_through<'r>(alloc: Global, tree: &'r Tree<'r>, budget: &mut u64) -> Result<Page, Stop>
     ensures page { IfOk result (λ page. built page ≡ Whole (trees tree.now)) }
     ensures steps { OnOk result (budget.old ≡ nodes tree.now + budget.new) }
     ensures stops { IfErr result (λ stop. (stop ≡ Stop.OverBudget) ⊎ (stop ≡ Stop.Memory)) }
@@ -98,7 +114,7 @@ fn begin<'r>(
     bytes: &mut u64,
 ) -> Result<(), AllocError>
     ensures { OnOk result (built page.new
-        ≡ Within (built page.old) (page_tag tag field.now) (map attribute given.now) Nothing) }
+        ≡ Within (built page.old) (page_tag tag field.now) (map attribute_tree given.now) Nothing) }
 {
     let attrs = attributes_of(alloc, given, bytes)?;
     let field = Text::of(alloc, field)?;
@@ -111,7 +127,7 @@ fn attributes_of<'r>(
     given: &'r [Given<'r>],
     bytes: &mut u64,
 ) -> Result<Attrs, AllocError>
-    ensures { IfOk result (λ made. made ≡ map attribute given.now) }
+    ensures { IfOk result (λ made. made ≡ map attribute_tree given.now) }
 {
     let mut attrs = Attrs::new(alloc);
     for attribute in given {
@@ -122,7 +138,7 @@ fn attributes_of<'r>(
 
 /// An attribute of the page.
 fn attribute_of<'r>(alloc: Global, given: &Given<'r>, bytes: &mut u64) -> Result<Attr, AllocError>
-    ensures { IfOk result (λ made. made ≡ attribute given.now) }
+    ensures { IfOk result (λ made. made ≡ attribute_tree given.now) }
 {
     Ok(match given {
         Given::Title(text) => Attr::Title(owned(alloc, text, bytes)?),
