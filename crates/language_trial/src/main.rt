@@ -10,6 +10,7 @@
 mod constructors;
 mod faults;
 mod matching;
+mod patterns;
 mod runs;
 mod scopes;
 mod terms;
@@ -79,6 +80,22 @@ fn main(rt: HostRuntime) -> io::Result<()> {
         &rt,
         "each node takes a step",
         Ok(runs::each_node_takes_a_step(alloc)),
+    )?;
+    tell(
+        &rt,
+        "names are followed and reduced",
+        patterns::names_are_followed_and_reduced(alloc),
+    )?;
+    tell(&rt, "names of rows", patterns::names_of_rows(alloc))?;
+    tell(
+        &rt,
+        "record patterns bind",
+        patterns::record_patterns_bind(alloc),
+    )?;
+    tell(
+        &rt,
+        "the deepest patterns bind",
+        patterns::the_deepest_patterns_bind(alloc),
     )?;
     tell(
         &rt,

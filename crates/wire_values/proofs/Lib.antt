@@ -1,0 +1,9 @@
+mod Stacks
+mod Moves
+mod Closing
+mod Forms
+mod Given
+mod Datatypes
+mod Steps
+mod Turns
+pub mod Routed

@@ -1,0 +1,3 @@
+pub mod Amid
+pub mod Scoped
+pub mod Known

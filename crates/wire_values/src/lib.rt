@@ -2,7 +2,10 @@
 #![tactic(auto)]
 
 mod fitting;
+mod frames;
+mod leaves;
 mod records;
+mod scoped;
 mod symbols;
 mod wires;
 

@@ -1,22 +1,18 @@
 //! Records of wires: one field after another.
-use crate::fitting::{Closed, Fitting, Step, Waiting};
+ghost use Rattle.std.specs.Prelude.{IfOk};
+ghost use Rattle.table_rows.specs.Shapes.{a_record, parts_at_arguments};
+ghost use Rattle.table_rows.specs.View.{wire_tree, parts_tree};
+ghost use Rattle.wire_values.specs.Amid.{LeadsTo, wants};
+ghost use Rattle.wire_values.specs.Known.{known_in};
+ghost use Rattle.wire_values.specs.Scoped.{scope_shapes, stack_view, amid, filling as in_filling};
+
+use crate::fitting::Fitting;
+use crate::frames::{Filling, Frame, Stack, Step};
+use crate::scoped::Closed;
 use crate::symbols::symbol_of;
 use crate::wires::NoValues;
-use con_terms::symbol::Sym;
-use run_values::{Slot, Value};
-use std::alloc::{AllocError, Global};
-use table_rows::{Part, Parts, Wire};
-
-/// A record as far as it is made: the name of the field that is awaited, the parts and wires behind it, and where the
-/// fields before it begin among all that are made.
-#[derive(Clone, Copy, Drop)]
-pub struct Filling<'r> {
-    pub name: Sym,
-    pub parts: &'r [Part],
-    pub wires: &'r [Wire],
-    pub scope: &'r [Closed<'r>],
-    pub from: usize,
-}
+use run_values::Value;
+use table_rows::{Parts, Wire};
 
 /// The first field of a record.
 pub fn begin_record<'r>(
@@ -24,77 +20,62 @@ pub fn begin_record<'r>(
     parts: &'r Parts,
     scope: &'r [Closed<'r>],
     wire: &'r Wire,
-    waiting: &mut Vec<Waiting<'r>>,
-    slots: &mut Vec<Slot<'r>>,
-) -> Result<Step<'r>, NoValues> {
-    match wire {
-        Wire::Rec(wires) => {
-            let filling = Filling {
-                name: Sym { number: 0 },
-                parts: parts.items.as_slice(),
-                wires: wires.items.as_slice(),
-                scope,
-                from: slots.len(),
-            };
-            next_part(fitting, filling, waiting, slots)
-        }
-        _ => Err(NoValues::Astray),
-    }
+    stack: &mut Stack<'r>,
+) -> Result<Step<'r>, NoValues>
+    ensures { IfOk result (λ step. LeadsTo (known_in fitting.now)
+        (wants (stack_view stack.old) (a_record (parts_at_arguments (scope_shapes scope.now) (parts_tree parts.now)))
+        (wire_tree wire.now))
+        (amid step (stack_view stack.new))) }
+{
+    let Wire::Rec(wires) = wire else {
+        return Err(NoValues::Astray);
+    };
+    let filling = Filling {
+        made: Vec::new(fitting.alloc),
+        parts: parts.items.as_slice(),
+        wires: wires.items.as_slice(),
+        scope,
+    };
+    next_part(fitting, filling, stack)
 }
 
 /// The next field of a record, or the record where there is none.
 pub fn next_part<'r>(
     fitting: &Fitting<'r>,
     filling: Filling<'r>,
-    waiting: &mut Vec<Waiting<'r>>,
-    slots: &mut Vec<Slot<'r>>,
-) -> Result<Step<'r>, NoValues> {
-    match filling.parts.split_first() {
-        None => {
-            if !filling.wires.is_empty() {
-                return Err(NoValues::Astray);
+    stack: &mut Stack<'r>,
+) -> Result<Step<'r>, NoValues>
+    ensures { IfOk result (λ step. LeadsTo (known_in fitting.now)
+        (in_filling filling.entry (stack_view stack.old)) (amid step (stack_view stack.new))) }
+{
+    let Filling {
+        made,
+        parts,
+        wires,
+        scope,
+    } = filling;
+    match parts.split_first() {
+        None => match wires.split_first() {
+            None => {
+                let fields = fitting.region.put_slice(made.as_slice())?;
+                Ok(Step::Has(Value::Fields(fields)))
             }
-            Ok(Step::Has(record(fitting, filling.from, slots)?))
-        }
-        Some((part, parts)) => match filling.wires.split_first() {
+            Some(_) => Err(NoValues::Astray),
+        },
+        Some((part, parts)) => match wires.split_first() {
             None => Err(NoValues::Astray),
             Some((wire, wires)) => {
-                let shape = &part.shape;
-                let scope = filling.scope;
+                let name = symbol_of(fitting.program, &part.name)?;
                 let further = Filling {
-                    name: symbol_of(fitting.program, &part.name)?,
+                    made,
                     parts,
                     wires,
                     scope,
-                    from: filling.from,
                 };
-                waiting.push(Waiting::Field(further))?;
+                stack.push(Frame::Field(further, name))?;
+                let shape = &part.shape;
                 Ok(Step::Wants(Closed { shape, scope }, wire))
             }
         },
     }
-}
-
-/// The record of the fields from a number on, which are taken off the others.
-fn record<'r>(
-    fitting: &Fitting<'r>,
-    from: usize,
-    slots: &mut Vec<Slot<'r>>,
-) -> Result<Value<'r>, AllocError> {
-    let fields = fields_from(fitting.alloc, slots.as_slice(), from)?;
-    slots.truncate(from);
-    Ok(Value::Fields(fitting.region.put_slice(fields.as_slice())?))
-}
-
-/// The fields from a number on.
-fn fields_from<'r>(
-    alloc: Global,
-    slots: &[Slot<'r>],
-    from: usize,
-) -> Result<Vec<Slot<'r>>, AllocError> {
-    let mut fields = Vec::new(alloc);
-    for i in from..slots.len() {
-        fields.push(slots[i])?;
-    }
-    Ok(fields)
 }

@@ -1,12 +1,18 @@
 //! From wires to values, without recursion.
-ghost use Rattle.std.specs.Prelude.{◌≡◌};
+ghost use Rattle.std.specs.Prelude.{◌≡◌, None, map, IfOk};
+ghost use Rattle.table_rows.specs.View.{shape_tree, arguments_tree, wire_tree, wires_tree};
+ghost use Rattle.run_values.specs.View.{value_tree};
+ghost use Rattle.core_meaning.specs.Wired.{HasValue, AreGiven};
+ghost use Rattle.wire_values.specs.Known.{known_by, known_in};
 
-use crate::fitting::{Closed, Fitting, Step, begin, handed_up};
+use crate::fitting::{Fitting, moved};
+use crate::frames::{Moved, Stack, Step};
+use crate::scoped::Closed;
 use core_terms::Program;
 use request_region::Region;
 use run_values::Value;
 use std::alloc::{AllocError, AllocFailed, Global};
-use table_rows::{Arguments, Datatypes, Wires};
+use table_rows::{Arguments, Datatypes, Shape, Wire, Wires};
 
 /// The most moves for one wire. One of more parts counts as want of memory.
 const MOVES: u32 = 10_000_000;
@@ -48,7 +54,10 @@ pub fn values_of_wires<'r>(
     datatypes: &'r Datatypes,
     shapes: &'r Arguments,
     wires: &'r Wires,
-) -> Result<Vec<Value<'r>>, NoValues> {
+) -> Result<Vec<Value<'r>>, NoValues>
+    ensures given { IfOk result (λ values. AreGiven (known_by program.now datatypes.now)
+        (arguments_tree shapes.now) None (wires_tree wires.now) None (map value_tree values.items)) }
+{
     let count = shapes.items.len();
     if wires.items.len() != count {
         return Err(NoValues::Astray);
@@ -58,35 +67,30 @@ pub fn values_of_wires<'r>(
         program,
         region,
         datatypes,
-        scope: region.put_slice(&[])?,
     };
     let mut values = Vec::new(alloc);
     for i in 0..count {
-        let closed = Closed {
-            shape: &shapes.items[i],
-            scope: fitting.scope,
-        };
-        values.push(value_of(&fitting, Step::Wants(closed, &wires.items[i]))?)?;
+        values.push(value_of(&fitting, &shapes.items[i], &wires.items[i])?)?;
     }
     Ok(values)
 }
 
-/// The value that comes of a first step.
-fn value_of<'r>(fitting: &Fitting<'r>, first: Step<'r>) -> Result<Value<'r>, NoValues> {
-    let mut waiting = Vec::new(fitting.alloc);
-    let mut slots = Vec::new(fitting.alloc);
-    let mut step = first;
+/// The value that a wire of a shape is.
+fn value_of<'r>(
+    fitting: &Fitting<'r>,
+    shape: &'r Shape,
+    wire: &'r Wire,
+) -> Result<Value<'r>, NoValues>
+    ensures { IfOk result (λ value. HasValue (known_in fitting.now)
+        (shape_tree shape.now) (wire_tree wire.now) (value_tree value)) }
+{
+    let mut stack = Stack::new(fitting.alloc);
+    let scope = fitting.region.put_slice(&[])?;
+    let mut step = Step::Wants(Closed { shape, scope }, wire);
     for _ in 0..MOVES {
-        match step {
-            Step::Wants(closed, wire) => {
-                step = begin(fitting, closed, wire, &mut waiting, &mut slots)?;
-            }
-            Step::Has(value) => match waiting.pop() {
-                None => return Ok(value),
-                Some(frame) => {
-                    step = handed_up(fitting, frame, value, &mut waiting, &mut slots)?;
-                }
-            },
+        match moved(fitting, step, &mut stack)? {
+            Moved::On(next) => step = next,
+            Moved::Whole(value) => return Ok(value),
         }
     }
     Err(NoValues::Memory)
