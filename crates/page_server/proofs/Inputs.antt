@@ -12,7 +12,7 @@ use Rattle.page_server.specs.declared.refusal.ModuleFault.{ModuleFault}
 use Rattle.page_server.specs.declared.refusal.ModuleFault.TheVariants.{FileTooLong, NotUtf8, BadChar, OpenText, OpenComment, IntTooLarge, Syntax, TooDeep, ManyTables, NotBuilt, OtherForm, Memory}
 use Rattle.page_server.specs.Lines.{line_of}
 use Rattle.page_server.specs.Modules.{HasPage, IsRefused}
-use Rattle.page_server.specs.Top.{PageIsWritten, RefusalIsWritten, FrontIsWritten, IsOther, SomeIsWritten, SomeFrontIsWritten}
+use Rattle.page_server.specs.Top.{PageIsWritten, RefusalIsWritten, FrontIsWritten, IsMeant, IsOther, SomeIsWritten, SomeFrontIsWritten}
 
 -- what was read to the end is all there was
 whole : (x y v : List ℕ) → x ≡ v ++ y → y ≡ [] → v ≡ x
@@ -96,12 +96,12 @@ front_of_page (Some x) (Some y) old new v trees p q h (front, rest, is, grew) =
 
 -- what was read is of another form, and some page was written
 pub other_page : (before left old new : Option (List ℕ)) (v : List ℕ) → Consumes before left v → (length v < 4194305 → IsAtEnd left)
-    → IsRefused v OtherForm → ((trees : Trees) × WritesPage old new (written trees)) → PageIsWritten before left old new
+    → IsRefused v OtherForm → ((trees : Trees) × IsMeant trees × WritesPage old new (written trees)) → PageIsWritten before left old new
 other_page None left old new v p q h w = tt
 other_page (Some x) None old new v p q h w = absurd p
 other_page (Some x) (Some y) old new v p q h w =
     let end : y ≡ [] = q (omega (arith, h.0.0)) in
-    (end, w.0, inr (subst IsOther (whole x y v p end) h), w.1)
+    (end, w.0, inr (subst IsOther (whole x y v p end) h, w.1), w.2)
 
 -- or some line
 pub other_line : (before left old new : Option (List ℕ)) (v : List ℕ) → Consumes before left v → (length v < 4194305 → IsAtEnd left)
@@ -111,12 +111,12 @@ other_line (Some x) left old new v p q h w = (w.0, inr (refused (Some x) left v 
 
 -- or a front of either
 pub other_front : (before left old new : Option (List ℕ)) (v : List ℕ) → Consumes before left v → (length v < 4194305 → IsAtEnd left)
-    → IsRefused v OtherForm → SomeFrontIsWritten old new ⊎ ((trees : Trees) × WritesFront old new (written trees)) → FrontIsWritten before old new
+    → IsRefused v OtherForm → SomeFrontIsWritten old new ⊎ ((trees : Trees) × IsMeant trees × WritesFront old new (written trees)) → FrontIsWritten before old new
 other_front None left old new v p q h w = tt
 other_front (Some x) left old new v p q h (inl w) = (w.0, inr (inr (refused (Some x) left v OtherForm p q h)), w.1)
-other_front (Some x) left old new v p q h (inr (trees, (front, rest, is, grew))) =
+other_front (Some x) left old new v p q h (inr (trees, meant, (front, rest, is, grew))) =
     let some : take (length front) (front ++ rest) ≡ front = take_at front rest (length front) refl in
-    (front ++ rest, inl (trees, inr (refused (Some x) left v OtherForm p q h), is), (length front, subst (Appends old new) (sym some) grew))
+    (front ++ rest, inl (trees, inr (refused (Some x) left v OtherForm p q h, meant), is), (length front, subst (Appends old new) (sym some) grew))
 
 -- another form is no want of memory
 pub no_memory : (fault : ModuleFault) → fault ≡ OtherForm → fault ≡ Memory → ⊥

@@ -5,6 +5,9 @@ use Rattle.xml_trees.specs.Trees.{Trees}
 use Rattle.xml_trees.specs.Written.{written}
 use Rattle.xml_trees.specs.Grammar.{IsPage}
 use Rattle.page_bytes.specs.Pages.{WritesPage}
+use Rattle.core_terms.specs.Trees.{Pg}
+use Rattle.core_typing.specs.Accepts.{Accepts}
+use Rattle.site_pages.specs.Shown.{IsShown}
 use Rattle.ur_outside.specs.Whole.{AppendsFront}
 use Rattle.page_server.specs.declared.refusal.ModuleFault.{ModuleFault}
 use Rattle.page_server.specs.declared.refusal.ModuleFault.TheVariants.{OtherForm}
@@ -25,13 +28,17 @@ IsBuildCommand words = is_build (reads words) ≡ true
 abbrev pub IsNoCommand : List (List ℕ) → Type 0
 IsNoCommand words = reads words ≡ None
 
--- The bytes are a module's that isn't of the small form. What its page is, or why it has none, isn't said here.
+-- The bytes are a module's that isn't of the small form. Of which program, or why it has no page, isn't said here.
 abbrev pub IsOther : List ℕ → Type 0
 IsOther input = IsRefused input OtherForm
 
--- these trees may be the page of the module
+-- an accepted program's page has these trees
+abbrev pub IsMeant : Trees → Type 0
+IsMeant trees = (p : Pg) × Accepts p × IsShown p trees
+
+-- these trees may be the page of the module: of a small one its own, of another one that of an accepted program
 abbrev pub MayShow : List ℕ → Trees → Type 0
-MayShow input trees = HasPage input trees ⊎ IsOther input
+MayShow input trees = HasPage input trees ⊎ (IsOther input × IsMeant trees)
 
 -- this line may refuse the module
 abbrev pub MayRefuse : List ℕ → List ℕ → Type 0

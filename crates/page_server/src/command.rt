@@ -7,7 +7,7 @@ ghost use Rattle.page_bytes.specs.Pages.{WritesPage, WritesFront};
 ghost use Rattle.ur_outside.specs.Causes.{Rose};
 ghost use Rattle.ur_outside.specs.Whole.{AppendsFront};
 ghost use Rattle.page_server.specs.Lines.{accepted, line_of, usage};
-ghost use Rattle.page_server.specs.Top.{FrontIsWritten, IsBuildCommand, IsNoCommand, IsPageCommand, IsToldPage, PageIsWritten, RefusalIsWritten, SomeFrontIsWritten, SomeIsWritten, UnbuiltIsWritten};
+ghost use Rattle.page_server.specs.Top.{FrontIsWritten, IsBuildCommand, IsMeant, IsNoCommand, IsPageCommand, IsToldPage, PageIsWritten, RefusalIsWritten, SomeFrontIsWritten, SomeIsWritten, UnbuiltIsWritten};
 ghost use Rattle.page_server.specs.Words.{for_check, reads};
 
 use crate::module::LONGEST;
@@ -91,11 +91,11 @@ fn end_other<T: Terms + Drop, O: Sink>(
 ) -> Ended
     ensures range { (result.status ≤ 5) × ((result.status ≡ 2) ⊎ (result.status ≡ 3) → ⊥) }
     ensures page { result.status ≡ 0
-        → (trees : Trees) × WritesPage (O.wrote output.old) (O.wrote output.new) (written trees) }
+        → (trees : Trees) × IsMeant trees × WritesPage (O.wrote output.old) (O.wrote output.new) (written trees) }
     ensures refused { result.status ≡ 1 → SomeIsWritten (O.wrote output.old) (O.wrote output.new) }
     ensures kept { result.status ≡ 5 → Keeps (O.wrote output.old) (O.wrote output.new) }
     ensures front { result.status ≡ 4 → SomeFrontIsWritten (O.wrote output.old) (O.wrote output.new)
-        ⊎ (trees : Trees) × WritesFront (O.wrote output.old) (O.wrote output.new) (written trees) }
+        ⊎ (trees : Trees) × IsMeant trees × WritesFront (O.wrote output.old) (O.wrote output.new) (written trees) }
     ensures failed { result.status ≡ 4 → Rose (O.faults output.old) (O.faults output.new) }
 {
     match page_of_text(alloc, terms, bytes) {

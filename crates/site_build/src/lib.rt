@@ -15,6 +15,7 @@ pub mod tables;
 
 pub use building::{build, build_text, explicit_program};
 pub use fault::BuildFault;
-pub use page::{NoPage, page_of_text};
+pub use page::page_of_text;
 pub use site::Site;
+pub use site_pages::NoPage;
 pub use tables::count_tables;
