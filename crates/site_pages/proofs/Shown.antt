@@ -20,7 +20,7 @@ use Rattle.core_meaning.specs.Requests.{answered_within, known}
 use Rattle.plain_run.specs.Effects.{effects_view}
 use Rattle.plain_run.specs.Ran.{HasRun}
 use Rattle.plain_run.specs.declared.ran.Ran.{Ran}
-use Rattle.site_pages.specs.Shown.{IsShown, GivesPage}
+use Rattle.site_pages.specs.Found.{IsFound, GivesPage}
 use Rattle.site_pages.specs.declared.lines.NoPage.{NoPage}
 
 -- the entry at a place of the routes
@@ -50,7 +50,7 @@ gives_page p routes call number entry values ran is given h =
 -- the page of what the path of `main` calls
 pub main_is_shown : (p : Pg) (routes : Rts) (callees items : List ℕ) (call : Cl) (number : ℕ) (path : List ℕ) (r : Result (List Piece) NoPage)
     → RoutesOf p routes callees → path ≡ codes "/Main/main" → (AreNamed routes → Route routes false path call) → items ≡ callees → call.entry < length items → number ≡ get_or items call.entry number
-    → IfOk r (λ page. GivesPage p routes call number (trees_of (built page))) → Accepts p → IfOk r (λ page. IsShown p (trees_of (built page)))
+    → IfOk r (λ page. GivesPage p routes call number (trees_of (built page))) → Accepts p → IfOk r (λ page. IsFound p (trees_of (built page)))
 main_is_shown p routes callees items call number path (Ok page) routed is read same inside there given accepted =
     record {
       routes = routes;

@@ -1,14 +1,13 @@
 //! From a program to the page of its `main`.
-ghost use Rattle.std.specs.Prelude.{◌≡◌, IfOk, IsTrue, IsFalse, Some, codes, map, slice_get};
+ghost use Rattle.std.specs.Prelude.{◌≡◌, IfOk, IsTrue, IsFalse};
 ghost use Rattle.core_terms.specs.View.{program_view};
 ghost use Rattle.core_typing.specs.Accepts.{Accepts};
-ghost use Rattle.core_meaning.specs.Requests.{answered_within};
+ghost use Rattle.core_meaning.specs.Requests.{aborted_page as page_aborted};
 ghost use Rattle.link_router.specs.View.{call_view, routes_view};
-ghost use Rattle.plain_run.specs.Ran.{HasRun};
-ghost use Rattle.run_values.specs.View.{value_tree};
 ghost use Rattle.site_pages.specs.Lengths.{IsShort, IsLong};
-ghost use Rattle.site_pages.specs.Shown.{IsShown, GivesPage};
-ghost use Rattle.xml_trees.specs.Trees.{IsWhole, built, trees_of};
+ghost use Rattle.site_pages.specs.Found.{GivesPage, IsFound};
+ghost use Rattle.site_pages.specs.Shown.{IsShown};
+ghost use Rattle.xml_trees.specs.Trees.{IsWhole, Whole, built, trees_of};
 ghost use Rattle.xml_trees.specs.Written.{written};
 
 use crate::lines::{NoPage, astray, named, stopped};
@@ -18,10 +17,10 @@ use page_bytes::page_length;
 use plain_run::{Ran, RunFault, run};
 use request_region::Region;
 use site_routes::{SiteRoutes, routes};
-use std::alloc::Global;
+use std::alloc::{AllocError, Global};
 use table_rows::Text;
 use wire_values::values_of_wires;
-use xml_trees::Page;
+use xml_trees::{Attrs, Page, Tag};
 
 /// The steps that a page may take.
 const BUDGET: u64 = 1_000_000;
@@ -38,13 +37,37 @@ fn is_short(page: &Page) -> bool
     page_length(page) <= LONGEST
 }
 
+/// The page of an aborted run: a body with the trees that it was given.
+fn aborted_page(alloc: Global, page: &Page) -> Result<Page, AllocError>
+    requires { IsWhole (built page.now) }
+    ensures { IfOk result (λ made. built made ≡ Whole (page_aborted (trees_of (built page.now)))) }
+{
+    let mut made = Page::new(alloc);
+    made.begin(Tag::Body, Attrs::new(alloc))?;
+    made.join(alloc, page)?;
+    made.end()?;
+    Ok(made)
+}
+
+/// Whether the text of the page of an aborted run has at most as many bytes as a page may have.
+fn is_short_aborted(alloc: Global, page: &Page) -> Result<bool, AllocError>
+    requires { IsWhole (built page.now) }
+    ensures short { IfOk result (λ found. IsTrue found → IsShort (written (page_aborted (trees_of (built page.now))))) }
+    ensures long { IfOk result (λ found. IsFalse found → IsLong (written (page_aborted (trees_of (built page.now))))) }
+{
+    let made = aborted_page(alloc, page)?;
+    Ok(is_short(&made))
+}
+
 /// Why a run gave no page.
 fn no_page(alloc: Global, fault: &RunFault) -> NoPage {
-    let is_long = match fault {
-        RunFault::Aborted(page) if page.is_whole() => !is_short(page),
-        _ => false,
-    };
-    stopped(alloc, fault, is_long)
+    match fault {
+        RunFault::Aborted(page) if page.is_whole() => match is_short_aborted(alloc, page) {
+            Ok(short) => stopped(alloc, fault, !short),
+            Err(AllocError) => NoPage::Memory,
+        },
+        _ => stopped(alloc, fault, false),
+    }
 }
 
 /// The page of a call of an entry: the value with this number, with the arguments that the wires are. The router gives
@@ -80,7 +103,7 @@ fn page_of_entry(
 /// The page that a program shows at `main` of its module, however long its text is.
 fn page_of_main(alloc: Global, program: &Program) -> Result<Page, NoPage>
     ensures { Accepts (program_view program.now)
-        → IfOk result (λ page. IsShown (program_view program.now) (trees_of (built page))) }
+        → IfOk result (λ page. IsFound (program_view program.now) (trees_of (built page))) }
 {
     let site = routes(alloc, program)?;
     let path = Text::of(alloc, "/Main/main")?;
@@ -93,6 +116,7 @@ fn page_of_main(alloc: Global, program: &Program) -> Result<Page, NoPage>
     }
 }
 
+#[tactic(auto, using(crate::proofs::Answering::found_is_shown))]
 /// The page that a program shows at `main` of its module, unless its text is longer than 16,777,216 bytes.
 pub fn page_of_program(alloc: Global, program: &Program) -> Result<Page, NoPage>
     ensures shown { Accepts (program_view program.now)
