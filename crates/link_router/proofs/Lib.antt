@@ -8,6 +8,9 @@ pub mod OneRefusal
 pub mod Numbers
 pub mod Paths
 pub mod Listed
+pub mod EachPiece
+pub mod EachReading
+pub mod EachTarget
 pub mod Closing
 pub mod Arguments
 pub mod Stacks

@@ -1,5 +1,5 @@
--- Laws of routes: a path is read piece by piece, and is a link of one call at most.
-use Rattle.std.specs.Prelude.{◌≡◌, ◌≢◌, ℕ, ◌<◌, Bool, List, [], ◌++◌, length, Option, Some, None, slice_get}
+-- Laws of routes: a path is read piece by piece, and is one call or is refused for one reason.
+use Rattle.std.specs.Prelude.{◌≡◌, ◌≢◌, ℕ, ◌<◌, Bool, List, [], ◌++◌, length, Option, Some, None, slice_get, ◌⊎◌}
 use Rattle.std.specs.List.{Contains, AllByRecursion}
 use Rattle.table_rows.specs.Shapes.{Sh, Cases}
 use Rattle.link_router.specs.Calls.{Ent, Rts, Cl, is_post}
@@ -63,3 +63,8 @@ OneRefusalAtMost = (routes : Rts) (post : Bool) (target : List ℕ) (x y : Astra
     → Refuses routes post target x
     → Refuses routes post target y
     → x ≡ y
+
+-- Each target is a call, or is refused.
+abbrev pub EachTargetIsRead : Type 0
+EachTargetIsRead = (routes : Rts) (post : Bool) (target : List ℕ) → AreNamed routes
+    → ((call : Cl) × Route routes post target call) ⊎ ((why : Astray) × Refuses routes post target why)

@@ -1,6 +1,7 @@
 //! Laws of links and forms: which calls a path is, which form a body is, and links and forms worked by hand.
 ghost use Rattle.link_router.specs.Forms.{EachBodyIsForm, OneFormAtMost};
-ghost use Rattle.link_router.specs.RouteLaws.{CallsAreNotRefused, OneCallAtMost, OneRefusalAtMost, RoutesAreRead};
+ghost use Rattle.link_router.specs.RouteLaws.{CallsAreNotRefused, EachTargetIsRead, OneCallAtMost};
+ghost use Rattle.link_router.specs.RouteLaws.{OneRefusalAtMost, RoutesAreRead};
 ghost use Rattle.link_router.specs.Worked.{WorkedForms, WorkedLinks, WorkedPaths};
 
 /// The links of the texts nothing, `.`, `a/b` and `é`, of a negative number, and of a list.
@@ -27,6 +28,11 @@ pub fn one_call_at_most()
 pub fn one_reading_at_most()
     ensures not_both { CallsAreNotRefused }
     ensures one_refusal { OneRefusalAtMost }
+{}
+
+/// A target is a call, or it is refused: one at least, and by the laws above one at most.
+pub fn one_reading_at_least()
+    ensures { EachTargetIsRead }
 {}
 
 /// Bodies of forms: a first pair that counts, an empty value, a checkbox, a lacking field, a spoilt one.
