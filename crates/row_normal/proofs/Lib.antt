@@ -37,3 +37,5 @@ pub mod Reduced
 pub mod Deeper
 pub mod Depths
 pub mod NormalPieces
+pub mod Rising
+pub mod SettledForms

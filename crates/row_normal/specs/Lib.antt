@@ -6,6 +6,7 @@ pub mod Glue
 pub mod Finished
 pub mod SameTree
 pub mod StepLeft
+pub mod Settled
 pub mod NormalForm
 pub mod Rounds
 pub mod Turns

@@ -17,6 +17,7 @@ pub mod pieces;
 mod reduce;
 mod rounds;
 pub mod same;
+mod settled;
 mod steps;
 pub mod written;
 

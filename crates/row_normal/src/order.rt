@@ -5,9 +5,11 @@ ghost use Rattle.con_terms.specs.Trees.{no_pairs, pair, row};
 ghost use Rattle.con_terms.specs.View.{con_tree, cons_tree, kind_tree, pair_tree, pairs_tree};
 ghost use Rattle.row_normal.specs.Glue.{piece_tree};
 ghost use Rattle.row_normal.specs.Ordered.{field_pieces as fields_apart, first_kind as leading_kind, ordered as in_its_order, ordered_all, ordered_pieces};
+ghost use Rattle.row_normal.specs.Settled.{ordered_pairs};
 
 use crate::glue::in_order;
 use crate::piece::Piece;
+use crate::settled::names_rise;
 use con_terms::con::{Con, Cons, Pair, Pairs};
 use con_terms::kind::{Kind, copy_kind};
 use std::alloc::{AllocError, Global};
@@ -38,6 +40,11 @@ pub fn ordered(alloc: Global, c: &mut Con) -> Result<(), AllocError>
         Con::Row(k, fields) => {
             let kind = copy_kind(alloc, k)?;
             let all = mem::replace(fields, Pairs::new(alloc));
+            if names_rise(&all) {
+                let same = ordered_fields(alloc, all)?;
+                *c = literal(alloc, kind, same)?;
+                return Ok(());
+            }
             let mut pieces = Vec::with_capacity(alloc, all.items.len())?;
             field_pieces(alloc, all, k, &mut pieces)?;
             *c = in_order(alloc, kind, pieces)?;
@@ -85,6 +92,24 @@ fn ordered_each(alloc: Global, cs: Cons) -> Result<Cons, AllocError>
     Ok(Cons { items })
 }
 
+/// Puts the rows of each field in order, where the fields stand in order already.
+#[cycle(ordered)]
+fn ordered_fields(alloc: Global, fields: Pairs) -> Result<Pairs, AllocError>
+    ensures { IfOk result (λ ps. pairs_tree ps ≡ ordered_pairs (pairs_tree fields)) }
+{
+    let mut items = Vec::with_capacity(alloc, fields.items.len())?;
+    for field in fields.items {
+        let Pair {
+            mut name,
+            mut value,
+        } = field;
+        ordered(alloc, &mut name)?;
+        ordered(alloc, &mut value)?;
+        items.push(Pair { name, value })?;
+    }
+    Ok(Pairs { items })
+}
+
 /// Adds the pieces of a row, as written.
 #[cycle(ordered)]
 fn row_pieces(alloc: Global, c: Con, pieces: &mut Vec<Piece>) -> Result<(), AllocError>
@@ -128,6 +153,13 @@ fn field_pieces(
         add_piece(alloc, con, pieces)?;
     }
     Ok(())
+}
+
+/// The literal of this kind with these fields.
+fn literal(alloc: Global, kind: Kind, fields: Pairs) -> Result<Con, AllocError>
+    ensures { IfOk result (λ c. con_tree c ≡ row (kind_tree kind) (pairs_tree fields)) }
+{
+    Ok(Con::Row(Box::new(alloc, kind)?, fields))
 }
 
 /// A field as a literal of its own.

@@ -4,7 +4,7 @@ use Rattle.con_terms.specs.View.{con_tree, kind_tree, pair_tree}
 use Rattle.con_terms.specs.declared.con.Con.TheViews.{out-Pairs}
 use Rattle.row_normal.specs.Glue.{piece_tree}
 use Rattle.row_normal.specs.Ordered.{ordered as in_its_order}
-use Rattle.row_normal.proofs.Each.{apart}
+use Rattle.row_normal.proofs.Each.{apart, in_field}
 use Rattle.row_normal.proofs.order.+ordered.Given as goal
 
 abbrev pub invariant-ordered_each-loop-c : goal.invariant-ordered_each-loop-c
@@ -16,4 +16,9 @@ abbrev pub invariant-field_pieces-loop-field : goal.invariant-field_pieces-loop-
 invariant-field_pieces-loop-field l =
     (map piece_tree l.pieces.items ++ map (λ p. apart (kind_tree l.k) (pair_tree p)) (into_iter_items l.field-iterator)
     ≡ map piece_tree l.initial.pieces.items ++ map (λ p. apart (kind_tree l.k) (pair_tree p)) (out-Pairs l.fn.fields).items.items)
+    × (into_iter_len l.field-iterator ≡ length (into_iter_items l.field-iterator))
+
+abbrev pub invariant-ordered_fields-loop-field : goal.invariant-ordered_fields-loop-field
+invariant-ordered_fields-loop-field l =
+    (map pair_tree l.items.items ++ map (λ p. in_field in_its_order (pair_tree p)) (into_iter_items l.field-iterator) ≡ map (λ p. in_field in_its_order (pair_tree p)) (out-Pairs l.fn.fields).items.items)
     × (into_iter_len l.field-iterator ≡ length (into_iter_items l.field-iterator))
