@@ -3,16 +3,20 @@
 
 A row of a table of docs/PROVED.md has a sentence, the clauses that say it (`crate.function.clause`, or `crate.function`
 for a lone clause), and the premises: what the functions require, and what the clauses' own statements ask. Each clause
-has to stand in the sources, and the premises have to be just those. README.md's commands, the lines that begin with `$`
-in its blocks, have to write what stands below them.
+has to stand in the sources, and the premises have to be just those. README.md's commands are run in a folder of their own,
+with `examples` and the modules that README.md shows: the lines of its blocks that begin with `$` have to write what
+stands below them, and end with status 1 where that is a refusal's line and with 0 elsewhere; every other `./urweb ..`,
+in a block or in a sentence, has to end with status 0.
 
     claims.py PROGRAM         checks, and ends with `N claims hold, M not`
     claims.py --premises CLAUSE ..      prints the premises of clauses, for a new row
 """
 import os
 import re
+import shlex
 import subprocess
 import sys
+import tempfile
 
 from contracts import definitions_of, functions_of, key_of, premises_of
 
@@ -80,25 +84,47 @@ def written(premises):
     return ", ".join(f"`{it}`" for it in premises) or NONE
 
 
-def commands_of(path):
-    """Each command of a document with what it has to write, both streams together."""
-    with open(path, encoding="utf-8") as it:
-        blocks = re.findall(r"(?:^    .*\n)+", it.read(), re.MULTILINE)
-    for block in blocks:
+# A refusal's line: the file and the byte where they are told, and the reason's name with what it keeps.
+REFUSAL = re.compile(r"(\S+: )?[A-Z]\w*( .*)?\n")
+
+
+def modules_of(text):
+    """The modules that a document shows, each with its file's name."""
+    for name, block in re.findall(r"into `(\w+\.ur)`:\n\n((?:    .*\n)+)", text):
+        yield name, "".join(line[4:] + "\n" for line in block.splitlines())
+
+
+def commands_of(text):
+    """Each command of a document with what it has to write, both streams together, or None where that isn't shown."""
+    for block, inline in re.findall(r"((?:^    .*\n)+)|`(\./urweb [^`]*)`", text, re.MULTILINE):
+        if inline:
+            yield " ".join(inline.split()), None
         lines = [line[4:] for line in block.splitlines()]
         starts = [i for i, line in enumerate(lines) if line.startswith("$ ")]
         for start, end in zip(starts, starts[1:] + [len(lines)]):
             yield lines[start][2:], "".join(line + "\n" for line in lines[start + 1:end])
+        if not starts:
+            yield from ((line, None) for line in lines if line.startswith("./urweb "))
 
 
 def faults_of_commands(path, program):
+    with open(path, encoding="utf-8") as it:
+        text = it.read()
     commands, faults = 0, []
-    for command, want in commands_of(path):
-        commands += 1
-        ran = subprocess.run(["bash", "-c", command.replace("./urweb", program)], cwd=ROOT, timeout=60,
-                             stdout=subprocess.PIPE, stderr=subprocess.STDOUT, text=True)
-        if ran.stdout != want:
-            faults.append(f"{command}: wrote {ran.stdout!r} in place of {want!r}")
+    with tempfile.TemporaryDirectory() as folder:
+        os.symlink(f"{ROOT}/examples", f"{folder}/examples")
+        for name, module in modules_of(text):
+            with open(f"{folder}/{name}", "w", encoding="utf-8") as it:
+                it.write(module)
+        for command, want in commands_of(text):
+            commands += 1
+            ran = subprocess.run(["bash", "-c", command.replace("./urweb", shlex.quote(program))], cwd=folder, timeout=60,
+                                 stdin=subprocess.DEVNULL, stdout=subprocess.PIPE, stderr=subprocess.STDOUT, text=True)
+            status = 1 if want and REFUSAL.match(want) else 0
+            if ran.returncode != status:
+                faults.append(f"{command}: ended with status {ran.returncode} in place of {status}: {ran.stdout[:600]!r}")
+            elif want is not None and ran.stdout != want:
+                faults.append(f"{command}: wrote {ran.stdout!r} in place of {want!r}")
     return commands, faults
 
 

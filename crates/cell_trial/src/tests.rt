@@ -11,6 +11,7 @@ const WORKERS: u32 = 4;
 
 const ENTRIES: u64 = 100_000;
 
+/// Each of four workers makes all its entries, numbered in its own order, and none is lost.
 #[test]
 fn four_workers_make_their_entries_in_order(rt: HostRuntime) -> Result<(), Fail> {
     let outcome = run(&rt, rt.alloc(), WORKERS, ENTRIES).ok_or("memory")?;
@@ -35,6 +36,7 @@ fn four_workers_make_their_entries_in_order(rt: HostRuntime) -> Result<(), Fail>
     Ok(())
 }
 
+/// Two workers take 1,000 turns each on a store of shared code, maps, rows and effects, and each turn is counted.
 #[test]
 fn a_store_of_everything_crosses_threads(rt: HostRuntime) -> Result<(), Fail> {
     let alloc = rt.alloc();

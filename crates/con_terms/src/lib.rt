@@ -13,3 +13,12 @@ pub mod rebuild;
 pub mod size;
 pub mod substitute;
 pub mod symbol;
+
+pub use con::{Con, Cons, Pair, Pairs};
+pub use copy::{copy_con, copy_pairs};
+pub use kind::{Kind, Kinds, copy_kind, same_kind};
+pub use place::Place;
+pub use rebuild::Replace;
+pub use size::{BINDERS, fits, has_room};
+pub use substitute::{shift, subst};
+pub use symbol::{Sym, SymTable};

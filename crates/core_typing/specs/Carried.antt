@@ -12,38 +12,47 @@ use Rattle.core_typing.specs.Compared.{Alike}
 mutual
   -- built of int, string, records, and datatypes of a list; in a datatype of so many parameters, of these too
   pub data CarriedBy : List Dt → List ℕ → ℕ → Cn → Type 0 where
+    -- int
     as_int : {ds : List Dt} {S : List ℕ} {k : ℕ} {t n : Cn}
         → normal_of t ≡ Some n
         → seen ds n ≡ a_number
         → CarriedBy ds S k t
+    -- string
     as_string : {ds : List Dt} {S : List ℕ} {k : ℕ} {t n : Cn}
         → normal_of t ≡ Some n
         → seen ds n ≡ a_text
         → CarriedBy ds S k t
+    -- $[n = t, ..], where each t is carried
     as_record : {ds : List Dt} {S : List ℕ} {k : ℕ} {t : Cn} {ps : Prs}
         → normal_of t ≡ Some (record_of (type_row ps))
         → FieldsCarried ds S k ps
         → CarriedBy ds S k t
+    -- d t .., where d is a datatype of the list, and each t is carried
     as_datatype : {ds : List Dt} {S : List ℕ} {k : ℕ} {t n : Cn} {d : Dt} {args : List Cn}
         → normal_of t ≡ Some n
         → seen ds n ≡ a_datatype d args
         → Contains S d.symbol
         → AllCarried ds S k args
         → CarriedBy ds S k t
+    -- a, a parameter of the datatype
     as_parameter : {ds : List Dt} {S : List ℕ} {k i : ℕ} {t : Cn}
         → normal_of t ≡ Some (var i)
         → i < k
         → CarriedBy ds S k t
 
   pub data FieldsCarried : List Dt → List ℕ → ℕ → Prs → Type 0 where
+    -- []
     no_fields_are : {ds : List Dt} {S : List ℕ} {k : ℕ} → FieldsCarried ds S k no_pairs
+    -- [n = t, ..], where t is carried
     a_field_is : {ds : List Dt} {S : List ℕ} {k x : ℕ} {t : Cn} {ps : Prs}
         → CarriedBy ds S k t
         → FieldsCarried ds S k ps
         → FieldsCarried ds S k (pair (name x) t ps)
 
   pub data AllCarried : List Dt → List ℕ → ℕ → List Cn → Type 0 where
+    -- no type
     none_are : {ds : List Dt} {S : List ℕ} {k : ℕ} → AllCarried ds S k []
+    -- t .., where t is carried
     one_is : {ds : List Dt} {S : List ℕ} {k : ℕ} {t : Cn} {ts : List Cn}
         → CarriedBy ds S k t
         → AllCarried ds S k ts
@@ -62,7 +71,9 @@ Carried ds t = (S : List ℕ) × IsClosed ds S × CarriedBy ds S 0 t
 
 -- a form can fill the type's values: a record of strings and bools
 pub data FieldsFilled : Prs → Type 0 where
+  -- []
   no_field : FieldsFilled no_pairs
+  -- [n = t, ..], where t is string or bool
   a_field : {x : ℕ} {t : Cn} {ps : Prs}
       → (t ≡ string_type) ⊎ (t ≡ bool_type)
       → FieldsFilled ps
@@ -73,9 +84,11 @@ Filled t = (ps : Prs) × (normal_of t ≡ Some (record_of (type_row ps))) × Fie
 
 -- a type is a function of carried arguments, of this number, to an action that gives a page
 pub data ShowsPage : List Dt → ℕ → Cn → Type 0 where
+  -- transaction page, for no argument
   at_once : {ds : List Dt} {t : Cn}
       → Alike t (transaction_of page_type)
       → ShowsPage ds 0 t
+  -- a -> b, where a is carried, and b shows a page for the other arguments
   takes_one : {ds : List Dt} {n : ℕ} {t a b : Cn}
       → normal_of t ≡ Some (arrow a b)
       → Carried ds a
@@ -84,11 +97,13 @@ pub data ShowsPage : List Dt → ℕ → Cn → Type 0 where
 
 -- or, behind those arguments, a function of a form
 pub data SendsForm : List Dt → ℕ → Cn → Type 0 where
+  -- a -> transaction page, where a form can fill a
   at_last : {ds : List Dt} {t a b : Cn}
       → normal_of t ≡ Some (arrow a b)
       → Filled a
       → Alike b (transaction_of page_type)
       → SendsForm ds 0 t
+  -- a -> b, where a is carried, and b sends a form behind the other arguments
   behind_one : {ds : List Dt} {n : ℕ} {t a b : Cn}
       → normal_of t ≡ Some (arrow a b)
       → Carried ds a
@@ -97,7 +112,9 @@ pub data SendsForm : List Dt → ℕ → Cn → Type 0 where
 
 -- a type takes so many carried arguments, and this is left of it
 pub data CarriesTo : List Dt → ℕ → Cn → Cn → Type 0 where
+  -- t, for no argument
   carries_none : {ds : List Dt} {t : Cn} → CarriesTo ds 0 t t
+  -- a -> b, where a is carried, and u is left of b
   carries_one : {ds : List Dt} {n : ℕ} {t a b u : Cn}
       → normal_of t ≡ Some (arrow a b)
       → Carried ds a

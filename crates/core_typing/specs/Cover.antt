@@ -53,27 +53,33 @@ patterns_depth (p ∷ ps) = max (pattern_depth p) (patterns_depth ps)
 mutual
   -- the shapes of a type down to a depth; deeper, and where the type tells no more, there are leaves alone
   pub data ShapeOf : List Dt → ℕ → Cn → Shp → Type 0 where
+    -- below the depth: any value
     deeper : {ds : List Dt} {t : Cn} → ShapeOf ds zero t leaf
+    -- a type that tells no more: any value
     no_more : {ds : List Dt} {d : ℕ} {t n : Cn}
         → normal_of t ≡ Some n
         → seen ds n ≡ nothing_more
         → ShapeOf ds (suc d) t leaf
+    -- 1 : int, in 64 bits
     of_number : {ds : List Dt} {d : ℕ} {t n : Cn} {z : ℤ}
         → normal_of t ≡ Some n
         → seen ds n ≡ a_number
         → FitsSigned w64 z
         → ShapeOf ds (suc d) t (number_shape z)
+    -- "a" : string, in UTF-8
     of_text : {ds : List Dt} {d : ℕ} {t n : Cn} {w : List ℕ}
         → normal_of t ≡ Some n
         → seen ds n ≡ a_text
         → IsUtf8 w
         → ShapeOf ds (suc d) t (text_shape w)
+    -- C : d t .., where C holds nothing
     of_bare : {ds : List Dt} {d j : ℕ} {t n : Cn} {x : Dt} {args : List Cn} {c : Cd}
         → normal_of t ≡ Some n
         → seen ds n ≡ a_datatype x args
         → slice_get x.constructors j ≡ Some c
         → c.holds ≡ None
         → ShapeOf ds (suc d) t (bare_shape x.symbol j)
+    -- C s : d t .., where s is a shape of what C holds at t ..
     of_holding : {ds : List Dt} {d j : ℕ} {t n held : Cn} {x : Dt} {args : List Cn} {c : Cd} {s : Shp}
         → normal_of t ≡ Some n
         → seen ds n ≡ a_datatype x args
@@ -81,6 +87,7 @@ mutual
         → c.holds ≡ Some held
         → ShapeOf ds d (held_at args held) s
         → ShapeOf ds (suc d) t (holding_shape x.symbol j s)
+    -- {n = s, ..} : $[n = t, ..], where s is a shape of t
     of_record : {ds : List Dt} {d : ℕ} {t n : Cn} {fs : List (Cn × Cn)} {ss : Shf}
         → normal_of t ≡ Some n
         → seen ds n ≡ a_record fs
@@ -88,7 +95,9 @@ mutual
         → ShapeOf ds (suc d) t (record_shape ss)
 
   pub data ShapesOf : List Dt → ℕ → List (Cn × Cn) → Shf → Type 0 where
+    -- {}
     of_no_fields : {ds : List Dt} {d : ℕ} → ShapesOf ds d [] no_shape_fields
+    -- {n = s, ..}, where s is a shape of n's type
     of_field : {ds : List Dt} {d : ℕ} {x t : Cn} {fs : List (Cn × Cn)} {s : Shp} {ss : Shf}
         → ShapeOf ds d t s
         → ShapesOf ds d fs ss
@@ -139,9 +148,11 @@ pub record Misses (ds : List Dt) (ps : List Pt) (t : Cn) (s : Shp) : Type 0 wher
 
 -- the type of a part that lies no deeper than a depth is too large
 pub data TooLargeIn : List Dt → ℕ → Cn → Type 0 where
+  -- t, whose normal form is too large
   itself : {ds : List Dt} {d : ℕ} {t : Cn}
       → normal_of t ≡ None
       → TooLargeIn ds (suc d) t
+  -- d t .., where what a constructor holds at t .. has such a part
   in_held : {ds : List Dt} {d : ℕ} (j : ℕ) {t n held : Cn} {x : Dt} {args : List Cn} {c : Cd}
       → normal_of t ≡ Some n
       → seen ds n ≡ a_datatype x args
@@ -149,6 +160,7 @@ pub data TooLargeIn : List Dt → ℕ → Cn → Type 0 where
       → c.holds ≡ Some held
       → TooLargeIn ds d (held_at args held)
       → TooLargeIn ds (suc d) t
+  -- $[x = u, ..], where u has such a part
   in_field : {ds : List Dt} {d : ℕ} (x : Cn) {t n u : Cn} {fs : List (Cn × Cn)}
       → normal_of t ≡ Some n
       → seen ds n ≡ a_record fs

@@ -90,22 +90,27 @@ Distinct (x ∷ xs) = All (λ y. x ≢ y) xs × Distinct xs
 -- declared together with each other, a datatype with itself. No rule types a thing without a term yet: its
 -- declaration is told not to be built
 pub data DeclsTyped (A : Asks) : Pg → List Cn → List Dt → List De → Type 0 where
+  -- no further declaration
   no_decls : {p : Pg} {tops : List Cn} {ds : List Dt} → DeclsTyped A p tops ds []
+  -- val x : t = e .., where t :: Type and e : t; the rest under x : t
   a_val : {p : Pg} {tops : List Cn} {ds : List Dt} {path : List ℕ} {at : Place} {x : ℕ} {w : Bool} {t : Cn} {e : Ex}
       {rest : List De}
       → Kinded (scope_with p tops ds).kinds t types
       → Typed A (scope_with p tops ds) e t
       → DeclsTyped A p (tops ++ t ∷ []) ds rest
       → DeclsTyped A p tops ds (val path at x w t e ∷ rest)
+  -- val rec x : t = e and .. .., where each name has its type; the rest under all of them
   some_vals : {p : Pg} {tops : List Cn} {ds : List Dt} {path : List ℕ} {ns : Nms} {rest : List De}
       → NamedTyped A (scope_with p tops ds) (scope_with p (tops ++ value_types (named_values path ns)) ds) ns
       → DeclsTyped A p (tops ++ value_types (named_values path ns)) ds rest
       → DeclsTyped A p tops ds (vals path ns ∷ rest)
+  -- con x :: k = c .., where c :: k
   a_con : {p : Pg} {tops : List Cn} {ds : List Dt} {path : List ℕ} {at : Place} {x : ℕ} {w : Bool} {k : Kd} {c : Cn}
       {rest : List De}
       → Kinded (scope_with p tops ds).kinds c k
       → DeclsTyped A p tops ds rest
       → DeclsTyped A p tops ds (con_is path at x w k c ∷ rest)
+  -- datatype d a .. = C of t | .. .., where t :: Type under d and a .., and constructors differ; the rest under d
   a_datatype : {p : Pg} {tops : List Cn} {ds : List Dt} {d : Dt} {rest : List De}
       → HoldsTypes (scope_with p tops (ds ++ d ∷ [])) d
       → Distinct (map (λ (c : Cd). c.name) d.constructors)

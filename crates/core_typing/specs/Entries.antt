@@ -30,19 +30,23 @@ parts_of (p ∷ ps) = part p.0 p.1 (parts_of ps)
 mutual
   -- the shape of a type's values. A datatype is named by its place; in a datatype of n parameters, so is each of these
   pub data Shaped : List (List ℕ) → List Dt → ℕ → Cn → Sh → Type 0 where
+    -- int
     of_int : {names : List (List ℕ)} {ds : List Dt} {k : ℕ} {t n : Cn}
         → normal_of t ≡ Some n
         → seen ds n ≡ a_number
         → Shaped names ds k t an_int
+    -- string
     of_text : {names : List (List ℕ)} {ds : List Dt} {k : ℕ} {t n : Cn}
         → normal_of t ≡ Some n
         → seen ds n ≡ seen.a_text
         → Shaped names ds k t a_text
+    -- bool
     of_truth : {names : List (List ℕ)} {ds : List Dt} {k : ℕ} {t n : Cn} {d : Dt} {args : List Cn}
         → normal_of t ≡ Some n
         → seen ds n ≡ a_datatype d args
         → d.symbol ≡ bool_name
         → Shaped names ds k t a_truth
+    -- d t .., where d is another datatype, the one at place i
     of_datatype : {names : List (List ℕ)} {ds : List Dt} {k i : ℕ} {t n : Cn} {d : Dt} {args : List Cn} {ss : Shs}
         → normal_of t ≡ Some n
         → seen ds n ≡ a_datatype d args
@@ -50,23 +54,28 @@ mutual
         → slice_get ds i ≡ Some d
         → AllShaped names ds k args ss
         → Shaped names ds k t (a_data i ss)
+    -- {}
     of_nothing : {names : List (List ℕ)} {ds : List Dt} {k : ℕ} {t r : Cn}
         → normal_of t ≡ Some (record_of r)
         → literal_fields r ≡ []
         → Shaped names ds k t a_unit
+    -- $[n = t, ..], with a field at least
     of_fields : {names : List (List ℕ)} {ds : List Dt} {k : ℕ} {t r : Cn} {f : ℕ × Cn} {fs : List (ℕ × Cn)}
         {ps : List (List ℕ × Sh)}
         → normal_of t ≡ Some (record_of r)
         → literal_fields r ≡ f ∷ fs
         → FieldsShaped names ds k (f ∷ fs) ps
         → Shaped names ds k t (a_record (parts_of ps))
+    -- a, a parameter of the datatype, counted from the first
     of_parameter : {names : List (List ℕ)} {ds : List Dt} {k i : ℕ} {t : Cn}
         → normal_of t ≡ Some (var i)
         → i < k
         → Shaped names ds k t (parameter (k - suc i))
 
   pub data AllShaped : List (List ℕ) → List Dt → ℕ → List Cn → Shs → Type 0 where
+    -- no type
     none_shaped : {names : List (List ℕ)} {ds : List Dt} {k : ℕ} → AllShaped names ds k [] no_shapes
+    -- t ..
     one_shaped : {names : List (List ℕ)} {ds : List Dt} {k : ℕ} {t : Cn} {ts : List Cn} {s : Sh} {ss : Shs}
         → Shaped names ds k t s
         → AllShaped names ds k ts ss
@@ -74,7 +83,9 @@ mutual
 
   -- fields in the byte order of their names
   pub data FieldsShaped : List (List ℕ) → List Dt → ℕ → List (ℕ × Cn) → List (List ℕ × Sh) → Type 0 where
+    -- []
     no_field_shaped : {names : List (List ℕ)} {ds : List Dt} {k : ℕ} → FieldsShaped names ds k [] []
+    -- [n = t, ..]
     field_shaped : {names : List (List ℕ)} {ds : List Dt} {k x : ℕ} {t : Cn} {fs : List (ℕ × Cn)} {name : List ℕ}
         {s : Sh} {ps : List (List ℕ × Sh)}
         → slice_get names x ≡ Some name
@@ -84,13 +95,17 @@ mutual
 
 -- what a constructor holds
 pub data HeldShaped : List (List ℕ) → List Dt → ℕ → Option Cn → Option Sh → Type 0 where
+  -- C
   holds_nothing : {names : List (List ℕ)} {ds : List Dt} {k : ℕ} → HeldShaped names ds k None None
+  -- C of t
   holds_one : {names : List (List ℕ)} {ds : List Dt} {k : ℕ} {t : Cn} {s : Sh}
       → Shaped names ds k t s
       → HeldShaped names ds k (Some t) (Some s)
 
 pub data CasesShaped : List (List ℕ) → List Dt → ℕ → List Cd → Cases → Type 0 where
+  -- no further constructor
   no_case : {names : List (List ℕ)} {ds : List Dt} {k : ℕ} → CasesShaped names ds k [] []
+  -- C of t | ..
   a_case : {names : List (List ℕ)} {ds : List Dt} {k : ℕ} {c : Cd} {cs : List Cd} {name : List ℕ} {held : Option Sh}
       {rest : Cases}
       → slice_get names c.name ≡ Some name
@@ -100,11 +115,14 @@ pub data CasesShaped : List (List ℕ) → List Dt → ℕ → List Cd → Cases
 
 -- the cases of each datatype; one that holds what links can't carry has none
 pub data DatatypesShaped : List (List ℕ) → List Dt → List Dt → List Cases → Type 0 where
+  -- no further datatype
   no_datatype : {names : List (List ℕ)} {all : List Dt} → DatatypesShaped names all [] []
+  -- datatype d = C of t | .., where each t has a shape
   carried : {names : List (List ℕ)} {all : List Dt} {d : Dt} {ds : List Dt} {cs : Cases} {rest : List Cases}
       → CasesShaped names all (arity d) d.constructors cs
       → DatatypesShaped names all ds rest
       → DatatypesShaped names all (d ∷ ds) (cs ∷ rest)
+  -- datatype d = C of t | .., where they haven't
   not_carried : {names : List (List ℕ)} {all : List Dt} {d : Dt} {ds : List Dt} {rest : List Cases}
       → ((cs : Cases) → CasesShaped names all (arity d) d.constructors cs → ⊥)
       → DatatypesShaped names all ds rest
@@ -120,9 +138,11 @@ value_name p v = get_or p.modules v.place.file [] ∷ map (λ x. get_or p.names 
 
 -- the arguments of a function that gives an action, and an action's form
 pub data TakesToPage : Pg → Cn → Shs → Type 0 where
+  -- transaction page
   no_argument : {p : Pg} {t : Cn}
       → Alike t (transaction_of page_type)
       → TakesToPage p t no_shapes
+  -- a -> b, where a is carried, and b takes the other arguments to a page
   an_argument : {p : Pg} {t a b : Cn} {s : Sh} {ss : Shs}
       → normal_of t ≡ Some (arrow a b)
       → Carried (all_datatypes p) a
@@ -131,12 +151,14 @@ pub data TakesToPage : Pg → Cn → Shs → Type 0 where
       → TakesToPage p t (shape s ss)
 
 pub data TakesFormToPage : Pg → Cn → Shs → Sh → Type 0 where
+  -- a -> transaction page, where a form can fill a
   form_last : {p : Pg} {t a b : Cn} {f : Sh}
       → normal_of t ≡ Some (arrow a b)
       → Filled a
       → Shaped p.names (all_datatypes p) 0 a f
       → Alike b (transaction_of page_type)
       → TakesFormToPage p t no_shapes f
+  -- a -> b, where a is carried, and b takes the other arguments and a form to a page
   form_behind : {p : Pg} {t a b : Cn} {s f : Sh} {ss : Shs}
       → normal_of t ≡ Some (arrow a b)
       → Carried (all_datatypes p) a
@@ -155,16 +177,19 @@ program_targets p = flat_map (λ (v : Value). body_targets v.body) (values p.dec
 -- The entry for a value and a method. By GET: an export whose arguments are carried and that gives an action for a
 -- page, and each link's target. By POST: each action's.
 pub data IsEntry : Pg → ℕ → Bool → Ent → Type 0 where
+  -- val x : t = e, which the program exports
   by_export : {p : Pg} {i : ℕ} {v : Value} {ss : Shs}
       → slice_get (values p.decls) i ≡ Some v
       → Contains p.exports i
       → TakesToPage p v.con ss
       → IsEntry p i false (record { name = value_name p v; arguments = ss; form = None })
+  -- val x : t = e, which a link={M.x e ..} calls
   by_link : {p : Pg} {i : ℕ} {v : Value} {ss : Shs}
       → slice_get (values p.decls) i ≡ Some v
       → Contains (program_targets p) (false, i)
       → TakesToPage p v.con ss
       → IsEntry p i false (record { name = value_name p v; arguments = ss; form = None })
+  -- val x : t = e, which an action={M.x e ..} calls
   by_action : {p : Pg} {i : ℕ} {v : Value} {ss : Shs} {f : Sh}
       → slice_get (values p.decls) i ≡ Some v
       → Contains (program_targets p) (true, i)
@@ -173,21 +198,26 @@ pub data IsEntry : Pg → ℕ → Bool → Ent → Type 0 where
 
 -- the entries from a value on, in the order of the values' numbers, GET before POST
 pub data EntriesFrom : Pg → ℕ → List Value → List (ℕ × Ent) → Type 0 where
+  -- no further value
   no_values : {p : Pg} {i : ℕ} → EntriesFrom p i [] []
+  -- x .., where x has no entry
   neither : {p : Pg} {i : ℕ} {v : Value} {vs : List Value} {rest : List (ℕ × Ent)}
       → ((post : Bool) (e : Ent) → IsEntry p i post e → ⊥)
       → EntriesFrom p (suc i) vs rest
       → EntriesFrom p i (v ∷ vs) rest
+  -- x .., where x has an entry by GET alone
   get_alone : {p : Pg} {i : ℕ} {v : Value} {vs : List Value} {e : Ent} {rest : List (ℕ × Ent)}
       → IsEntry p i false e
       → ((d : Ent) → IsEntry p i true d → ⊥)
       → EntriesFrom p (suc i) vs rest
       → EntriesFrom p i (v ∷ vs) ((i, e) ∷ rest)
+  -- x .., where x has an entry by POST alone
   post_alone : {p : Pg} {i : ℕ} {v : Value} {vs : List Value} {e : Ent} {rest : List (ℕ × Ent)}
       → ((d : Ent) → IsEntry p i false d → ⊥)
       → IsEntry p i true e
       → EntriesFrom p (suc i) vs rest
       → EntriesFrom p i (v ∷ vs) ((i, e) ∷ rest)
+  -- x .., where x has an entry by each
   get_and_post : {p : Pg} {i : ℕ} {v : Value} {vs : List Value} {e d : Ent} {rest : List (ℕ × Ent)}
       → IsEntry p i false e
       → IsEntry p i true d

@@ -44,8 +44,9 @@ ProgramSidesDiffer = (p : Pg) (f : Fault) → Formed p → ProgramTells p f → 
 abbrev pub FoundTellsNothing : Type 0
 FoundTellsNothing = (G : Sc) (e : Ex) (t : Cn) (f : Fault) → FoundBy Covers G e t → Fails G e f → ⊥
 
--- Whether patterns cover, and whether links are calls with arguments that travel, can be told. Nothing proves either
--- yet: the law below, and each law over it, stands on both.
+-- Whether patterns cover, and whether links are calls with arguments that travel, can be told. Both are premises of
+-- the law below. The crate told_terms proves them (cover_is_decided, links_are_decided), and so its law that each term
+-- is found or fails (each_term_is_found_or_fails) has neither premise.
 abbrev pub CoverIsDecided : Type 0
 CoverIsDecided = (G : Sc) (p : Place) (ps : List Pt) (t : Cn)
     → Covers G.datatypes ps t ⊎ ((f : Fault) × Uncovered G p ps t f)

@@ -23,7 +23,9 @@ HoldsFoundTypes G d = (c : Cd) (held : Cn)
 
 -- each declaration is found where those before it are in scope
 pub data DeclsFound : Pg → List Cn → List Dt → List De → Type 0 where
+  -- no further declaration
   no_decls_found : {p : Pg} {tops : List Cn} {ds : List Dt} → DeclsFound p tops ds []
+  -- val x : t = e .., where t :: Type and e : t; the rest under x : t
   a_val_found : {p : Pg} {tops : List Cn} {ds : List Dt} {path : List ℕ} {at : Place} {x : ℕ} {w : Bool} {t u : Cn}
       {e : Ex} {rest : List De}
       → HasKind (scope_with p tops ds) t types
@@ -31,15 +33,18 @@ pub data DeclsFound : Pg → List Cn → List Dt → List De → Type 0 where
       → Alike t u
       → DeclsFound p (tops ++ t ∷ []) ds rest
       → DeclsFound p tops ds (val path at x w t e ∷ rest)
+  -- val rec x : t = e and .. .., where each name has its type; the rest under all of them
   vals_found : {p : Pg} {tops : List Cn} {ds : List Dt} {path : List ℕ} {ns : Nms} {rest : List De}
       → NamedFound Covers (scope_with p tops ds) (scope_with p (tops ++ value_types (named_values path ns)) ds) ns
       → DeclsFound p (tops ++ value_types (named_values path ns)) ds rest
       → DeclsFound p tops ds (vals path ns ∷ rest)
+  -- con x :: k = c .., where c :: k
   con_found : {p : Pg} {tops : List Cn} {ds : List Dt} {path : List ℕ} {at : Place} {x : ℕ} {w : Bool} {k : Kd} {c :
       Cn} {rest : List De}
       → HasKind (scope_with p tops ds) c k
       → DeclsFound p tops ds rest
       → DeclsFound p tops ds (con_is path at x w k c ∷ rest)
+  -- datatype d a .. = C of t | .. .., where t :: Type under d and a .., and constructors differ; the rest under d
   datatype_found : {p : Pg} {tops : List Cn} {ds : List Dt} {d : Dt} {rest : List De}
       → HoldsFoundTypes (scope_with p tops (ds ++ d ∷ [])) d
       → Distinct (map (λ (c : Cd). c.name) d.constructors)

@@ -22,12 +22,14 @@ flaw_at p xs flaw.too_large = too_large p
 
 -- a constructor is found to have a kind
 pub data HasKind : Sc → Cn → Kd → Type 0 where
+  -- c :: k
   has : {G : Sc} {c : Cn} {k : Kd}
       → judged_at G.kinds c k ≡ Ok k
       → HasKind G c k
 
 -- or the first flaw that keeps it from having it is told at a place
 pub data LacksKind : Sc → Place → Cn → Kd → Fault → Type 0 where
+  -- c, where k is wanted and the first flaw is w
   lacks : {G : Sc} {p : Place} {c : Cn} {k : Kd} {w : Flw}
       → judged_at G.kinds c k ≡ Err w
       → LacksKind G p c k (flaw_at p G.called w)

@@ -27,27 +27,36 @@ mutual
         → Equal t u
         → A.exchange G.kinds u
         → PatTyped A G p u ts
+    -- _ : t, which binds nothing
     of_any : {G : Sc} {p : Place} {t : Cn} → PatTyped A G (pattern p any) t []
+    -- x : t, where t :: Type, which binds x
     of_binds : {G : Sc} {p : Place} {x : ℕ} {w : Bool} {t : Cn}
         → Kinded G.kinds t types
         → PatTyped A G (pattern p (binds x w t)) t (t ∷ [])
+    -- 1 : int
     of_number : {G : Sc} {p : Place} {z : ℤ} → PatTyped A G (pattern p (is_number z)) int_type []
+    -- "a" : string
     of_text : {G : Sc} {p : Place} {w : List ℕ} → PatTyped A G (pattern p (is_text w)) string_type []
+    -- C : d a .., where C is a constructor of d, a datatype of as many types as a .., and holds nothing
     of_bare : {G : Sc} {p : Place} {s j : ℕ} {args : List Cn} {c : Cd}
         → AtConstructor G s j args c
         → c.holds ≡ None
         → PatTyped A G (pattern p (is_bare s j)) (at_types (basic s) args) []
+    -- C q : d a .., where C is a constructor of d, a datatype of as many types as a .., and q : what C holds at a ..
     of_holding : {G : Sc} {p : Place} {s j : ℕ} {args : List Cn} {c : Cd} {held : Cn} {q : Pt} {ts : List Cn}
         → AtConstructor G s j args c
         → c.holds ≡ Some held
         → PatTyped A G q (held_at args held) ts
         → PatTyped A G (pattern p (is_holding s j q)) (at_types (basic s) args) ts
+    -- {n = q, ..} : $[n = t, ..], where n :: Name and q : t for each field
     of_fields : {G : Sc} {p : Place} {fs : Pfs} {ps : Prs} {ts : List Cn}
         → PatFieldsTyped A G fs ps ts
         → PatTyped A G (pattern p (has_fields fs false)) (record_of (type_row ps)) ts
+    -- {n = q, .., ...} : $([n = t, ..] ++ r), where n :: Name and q : t for each field
     of_more_fields : {G : Sc} {p : Place} {fs : Pfs} {ps : Prs} {r : Cn} {ts : List Cn}
         → PatFieldsTyped A G fs ps ts
         → PatTyped A G (pattern p (has_fields fs true)) (record_of (cat (type_row ps) r)) ts
+    -- (q : t) : t, where t :: Type and q : t
     of_annotated : {G : Sc} {p : Place} {q : Pt} {t : Cn} {ts : List Cn}
         → Kinded G.kinds t types
         → PatTyped A G q t ts
@@ -55,7 +64,9 @@ mutual
 
   -- fields of a row, in their order
   pub data PatFieldsTyped (A : Asks) : Sc → Pfs → Prs → List Cn → Type 0 where
+    -- {}
     of_none : {G : Sc} → PatFieldsTyped A G no_pat_fields no_pairs []
+    -- {n = q, ..}, where n :: Name and q : t; what later fields bind is further in
     of_one : {G : Sc} {p : Place} {n t : Cn} {q : Pt} {fs : Pfs} {ps : Prs} {ts us : List Cn}
         → Kinded G.kinds n names
         → PatTyped A G q t ts

@@ -38,14 +38,18 @@ named_types (named p x w t e ns) = named_types ns ++ t ∷ []
 
 -- so many terms, and nothing else
 pub data AreTerms : Its → ℕ → Type 0 where
+  -- no item
   no_term : AreTerms no_items 0
+  -- e .., where those behind e are n terms
   one_more : {e : Ex} {is : Its} {n : ℕ}
       → AreTerms is n
       → AreTerms (with_term e is) (suc n)
 
 -- a top-level value, or a call of one with so many terms
 pub data IsCallOf : Ex → ℕ → ℕ → Type 0 where
+  -- M.x
   alone : {p : Place} {a : Bool} {i : ℕ} → IsCallOf (node p a (top i)) i 0
+  -- M.x e .., with n terms
   applied : {p q : Place} {a b : Bool} {i n : ℕ} {s : Sigil} {is : Its}
       → AreTerms is n
       → IsCallOf (node p a (call (node q b (top i)) s is)) i n
@@ -53,35 +57,48 @@ pub data IsCallOf : Ex → ℕ → ℕ → Type 0 where
 -- a link's and an action's term is a call of a top-level function, with serialisable arguments; for a link with all
 -- of them, for an action with all but the form. Other attributes aren't asked
 pub data IsLinked : Sc → AttrName → Ex → Type 0 where
+  -- link={M.x e ..}, where M.x : t, a function of n carried arguments to a page
   as_link : {G : Sc} {e : Ex} {i n : ℕ} {t : Cn}
       → IsCallOf e i n
       → slice_get G.tops i ≡ Some t
       → ShowsPage G.datatypes n t
       → IsLinked G attr.Link e
+  -- action={M.x e ..}, where M.x : t, a function of n carried arguments and a form to a page
   as_action : {G : Sc} {e : Ex} {i n : ℕ} {t : Cn}
       → IsCallOf e i n
       → slice_get G.tops i ≡ Some t
       → SendsForm G.datatypes n t
       → IsLinked G attr.Action e
+  -- title={e}
   as_title : {G : Sc} {e : Ex} → IsLinked G attr.Title e
+  -- href={e}
   as_href : {G : Sc} {e : Ex} → IsLinked G attr.Href e
+  -- src={e}
   as_src : {G : Sc} {e : Ex} → IsLinked G attr.Src e
+  -- alt={e}
   as_alt : {G : Sc} {e : Ex} → IsLinked G attr.Alt e
+  -- border={e}
   as_border : {G : Sc} {e : Ex} → IsLinked G attr.Border e
+  -- value={e}
   as_value : {G : Sc} {e : Ex} → IsLinked G attr.Value e
+  -- size={e}
   as_size : {G : Sc} {e : Ex} → IsLinked G attr.Size e
 
 -- an attribute of this name is among them
 pub data HasAttribute : Ats → AttrName → Type 0 where
+  -- <g n={e} ..>
   first : {p : Place} {n : AttrName} {e : Ex} {as' : Ats} → HasAttribute (attribute p n e as') n
+  -- <g m={d} ..>, with n among those behind it
   later : {p : Place} {n m : AttrName} {e : Ex} {as' : Ats}
       → HasAttribute as' n
       → HasAttribute (attribute p m e as') n
 
 -- a text or a spliced value: a call of cdata or of txt
 pub data IsWords : Ex → Type 0 where
+  -- text, which is cdata of a string
   of_cdata : {p q : Place} {a b : Bool} {s : Sigil} {is : Its}
       → IsWords (node p a (call (node q b (basis Cdata)) s is))
+  -- {[e]}, which is txt of e
   of_txt : {p q : Place} {a b : Bool} {s : Sigil} {is : Its} → IsWords (node p a (call (node q b (basis Txt)) s is))
 
 -- each node is one
@@ -213,6 +230,7 @@ mutual
   pub data Applies (A : Asks) : Sc → Cn → Its → Cn → Type 0 where
     -- f
     to_nothing : {G : Sc} {t : Cn} → Applies A G t no_items t
+    -- f, where f : t, and t is equal to u, from which the items lead on
     to_equal : {G : Sc} {t u v : Cn} {is : Its}
         → Equal t u
         → A.exchange G.kinds u
@@ -238,6 +256,7 @@ mutual
 
   -- each branch has the type, under what its pattern binds
   pub data EachTyped (A : Asks) : Sc → Cn → Brs → Cn → Type 0 where
+    -- no further branch
     no_branch : {G : Sc} {t u : Cn} → EachTyped A G t no_branches u
     -- | p => e
     each_branch : {G : Sc} {t u : Cn} {p : Place} {q : Pt} {e : Ex} {bs : Brs} {ts : List Cn}
@@ -247,6 +266,7 @@ mutual
         → EachTyped A G t (branch p q e bs) u
 
   pub data FieldsTyped (A : Asks) : Sc → Fds → Prs → Type 0 where
+    -- {}
     no_field : {G : Sc} → FieldsTyped A G no_fields no_pairs
     -- n = e
     each_field : {G : Sc} {p : Place} {n t : Cn} {e : Ex} {fs : Fds} {ps : Prs}
@@ -257,6 +277,7 @@ mutual
 
   -- the scope behind the declarations of a let
   pub data Declares (A : Asks) : Sc → Los → Sc → Type 0 where
+    -- let in e end
     nothing : {G : Sc} → Declares A G no_locals G
     -- val x : t = e
     one_name : {G H : Sc} {p : Place} {x : ℕ} {w : Bool} {t : Cn} {e : Ex} {ls : Los}
@@ -272,6 +293,7 @@ mutual
 
   -- each name has its type, in the scope of all of them
   pub data NamedTyped (A : Asks) : Sc → Sc → Nms → Type 0 where
+    -- no further name
     no_name : {G H : Sc} → NamedTyped A G H no_named
     -- and x : t = e
     each_name : {G H : Sc} {p : Place} {x : ℕ} {w : Bool} {t : Cn} {e : Ex} {ns : Nms}
@@ -347,6 +369,7 @@ mutual
 
   -- each attribute is one of the tag's, has its type, stands once, and is a call where it is a link or an action
   pub data AttributesTyped (A : Asks) : Sc → Cn → TagName → Ats → Type 0 where
+    -- <a>
     no_attribute : {G : Sc} {u : Cn} {g : TagName} → AttributesTyped A G u g no_attributes
     -- n={e}
     each_attribute : {G : Sc} {u t : Cn} {g : TagName} {p : Place} {n : AttrName} {e : Ex} {as' : Ats}
@@ -361,6 +384,7 @@ mutual
   -- it is apart from the fields before it and from those of all behind it; a last one is asked for nothing but its
   -- type
   pub data NodesTyped (A : Asks) : Sc → Cn → Cn → Xs → Cn → Type 0 where
+    -- <xml></xml>
     no_node : {G : Sc} {c u : Cn} → NodesTyped A G c u no_nodes no_types
     -- x: the last node, or an only one
     last_node : {G : Sc} {c u b : Cn} {e : Ex}

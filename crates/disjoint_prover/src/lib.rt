@@ -7,3 +7,7 @@ pub mod fault;
 pub mod guards;
 pub mod laws;
 pub mod prover;
+
+pub use fault::DisjointFault;
+pub use guards::{Guards, Sides};
+pub use prover::disjoint;

@@ -17,8 +17,10 @@ IsUnbound _ = ⊥
 -- the fault stands at this place and tells what is told; want of memory tells nothing
 abbrev pub Refuses : Place → KindFault → Result Kd Flw → Type 0
 Refuses at (Unbound p) told = (p ≡ at) × IsUnbound told
-Refuses at (KindMismatch p wanted found) told = (p ≡ at) × (told ≡ Err (kinds_differ (kind_tree wanted) (kind_tree found)))
-Refuses at (NotDisjoint p pieces) told = (p ≡ at) × (told ≡ Err (pieces_touch (con_tree pieces.left) (con_tree pieces.right)))
+Refuses at (KindMismatch p wanted found) told =
+    (p ≡ at) × (told ≡ Err (kinds_differ (kind_tree wanted) (kind_tree found)))
+Refuses at (NotDisjoint p pieces) told =
+    (p ≡ at) × (told ≡ Err (pieces_touch (con_tree pieces.left) (con_tree pieces.right)))
 Refuses at (TooLarge p) told = (p ≡ at) × (told ≡ Err too_large)
 Refuses at Memory told = Unit {0}
 

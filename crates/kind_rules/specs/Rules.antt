@@ -120,7 +120,8 @@ components k = []
 -- a component of a tuple; where there is none with this number, a tuple with one component more, of kind Type, is
 -- told as wanted
 abbrev pub component_kind : ℕ → Kd → Result Kd Flw
-component_kind n k = or_flaw (kinds_differ (tuple_of (kinds_from (components k ++ types ∷ []))) k) (slice_get (components k) n)
+component_kind n k =
+    or_flaw (kinds_differ (tuple_of (kinds_from (components k ++ types ∷ []))) k) (slice_get (components k) n)
 
 abbrev pub proj_kind : ℕ → Result Kd Flw → Result Kd Flw
 proj_kind n c = and_then c (component_kind n)

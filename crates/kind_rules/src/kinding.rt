@@ -29,14 +29,14 @@ use std::alloc::{AllocError, Global};
 ///
 /// All that is told stands at this place. A flaw of a part comes before one of the whole, and that of an earlier part
 /// before that of a later one. A constructor that is deeper than 2,000 is TooLarge before all else; so is one of
-/// which a
-/// comparison takes 100,000 units or more, both sides together.
+/// which a comparison takes 100,000 units or more, both sides together.
 pub fn kind_of(alloc: Global, s: &Scope, c: &Con, at: Place) -> Result<Kind, KindFault>
     ensures kinded { IfOk result (λ k. Kinded (scope_view s.now) (con_tree c.now) (kind_tree k)) }
     ensures exact { Gives at result (judged (scope_view s.now) (con_tree c.now)) }
     ensures two_kinds { IfErr result KeepsTwoKinds }
     ensures pieces_or_size_only_with_a_cause { IfErr result (HasCause (scope_view s.now) (con_tree c.now)) }
-    ensures unbound_or_mismatch_only_where_unkinded { (k : Kd) → Kinded (scope_view s.now) (con_tree c.now) k → IfErr result TellsComparison }
+    ensures unbound_or_mismatch_only_where_unkinded { (k : Kd) → Kinded (scope_view s.now) (con_tree c.now) k
+        → IfErr result TellsComparison }
 {
     match judge(alloc, s, c)? {
         Ok(kind) => Ok(kind),
@@ -72,7 +72,8 @@ pub fn judge(alloc: Global, s: &Scope, c: &Con) -> Result<Result<Kind, Flaw>, Al
     }
 }
 
-// Each form has a function of its own, so that little of the stack is taken for each level.
+/// Finds the kind of a constructor of any form. Each form has a function of its own, so that little of the stack is
+/// taken for each level.
 #[cycle(find)]
 fn find(alloc: Global, s: &Scope, c: &Con) -> Result<Result<Kind, Flaw>, AllocError>
     ensures { IfOk result (λ r. found kind_tree r ≡ kinding (scope_view s.now) (con_tree c.now)) }
@@ -96,6 +97,7 @@ fn find(alloc: Global, s: &Scope, c: &Con) -> Result<Result<Kind, Flaw>, AllocEr
     }
 }
 
+/// Finds the kinds of two constructors; a flaw of the first comes before one of the second.
 #[cycle(find)]
 fn find_both(alloc: Global, s: &Scope, a: &Con, b: &Con) -> Result<Result<Two, Flaw>, AllocError>
     ensures { IfOk result
@@ -107,6 +109,7 @@ fn find_both(alloc: Global, s: &Scope, a: &Con, b: &Con) -> Result<Result<Two, F
     Ok(both(first, second))
 }
 
+/// Finds the kind of a constructor under one more binder, of this kind.
 #[cycle(find)]
 fn find_under(alloc: Global, s: &Scope, k: &Kind, b: &Con) -> Result<Result<Kind, Flaw>, AllocError>
     ensures { IfOk result
@@ -116,6 +119,7 @@ fn find_under(alloc: Global, s: &Scope, k: &Kind, b: &Con) -> Result<Result<Kind
     find(alloc, &inner, b)
 }
 
+/// Finds the kind of a type of functions, `a -> b`.
 #[cycle(find)]
 fn find_arrow(alloc: Global, s: &Scope, a: &Con, b: &Con) -> Result<Result<Kind, Flaw>, AllocError>
     ensures { IfOk result
@@ -125,6 +129,7 @@ fn find_arrow(alloc: Global, s: &Scope, a: &Con, b: &Con) -> Result<Result<Kind,
     of_arrow(alloc, sides)
 }
 
+/// Finds the kind of a type of functions of a constructor, `x :: k -> b`.
 #[cycle(find)]
 fn find_poly(alloc: Global, s: &Scope, k: &Kind, b: &Con) -> Result<Result<Kind, Flaw>, AllocError>
     ensures { IfOk result
@@ -134,6 +139,7 @@ fn find_poly(alloc: Global, s: &Scope, k: &Kind, b: &Con) -> Result<Result<Kind,
     of_body(alloc, body)
 }
 
+/// Finds the kind of a guarded type, `[a ~ b] => body`.
 #[cycle(find)]
 fn find_guarded(
     alloc: Global,
@@ -153,6 +159,7 @@ fn find_guarded(
     }
 }
 
+/// Finds the kind of a guarded type whose sides are rows with these normal forms.
 #[cycle(find)]
 fn find_assuming(
     alloc: Global,
@@ -162,13 +169,15 @@ fn find_assuming(
 ) -> Result<Result<Kind, Flaw>, AllocError>
     ensures { let sides = sides_tree guard.now in
         IfOk result
-        (λ r. found kind_tree r ≡ type_kind (kinding (assumed sides.0 sides.1 (scope_view s.now)) (con_tree body.now))) }
+        (λ r. found kind_tree r
+        ≡ type_kind (kinding (assumed sides.0 sides.1 (scope_view s.now)) (con_tree body.now))) }
 {
     let inner = s.assume(&guard.left, &guard.right)?;
     let body = find(alloc, &inner, body)?;
     of_body(alloc, body)
 }
 
+/// Finds the kind of a type of records, `$a`.
 #[cycle(find)]
 fn find_record(alloc: Global, s: &Scope, a: &Con) -> Result<Result<Kind, Flaw>, AllocError>
     ensures { IfOk result (λ r. found kind_tree r ≡ record_kind (kinding (scope_view s.now) (con_tree a.now))) }
@@ -177,6 +186,7 @@ fn find_record(alloc: Global, s: &Scope, a: &Con) -> Result<Result<Kind, Flaw>, 
     of_record(alloc, row)
 }
 
+/// Finds the kind of an application, `f a`.
 #[cycle(find)]
 fn find_app(alloc: Global, s: &Scope, f: &Con, a: &Con) -> Result<Result<Kind, Flaw>, AllocError>
     ensures { IfOk result
@@ -186,6 +196,7 @@ fn find_app(alloc: Global, s: &Scope, f: &Con, a: &Con) -> Result<Result<Kind, F
     of_app(alloc, parts)
 }
 
+/// Finds the kind of a function, `fn x :: k => b`.
 #[cycle(find)]
 fn find_lambda(
     alloc: Global,
@@ -200,6 +211,7 @@ fn find_lambda(
     of_lambda(alloc, k, body)
 }
 
+/// Finds the kind of a row literal, `[n = c, ..]`.
 #[cycle(find)]
 fn find_row(
     alloc: Global,
@@ -214,6 +226,7 @@ fn find_row(
     of_row(alloc, s, k, ps, fields)
 }
 
+/// Finds the kind of two rows put together, `a ++ b`.
 #[cycle(find)]
 fn find_cat(alloc: Global, s: &Scope, a: &Con, b: &Con) -> Result<Result<Kind, Flaw>, AllocError>
     ensures { IfOk result
@@ -223,6 +236,7 @@ fn find_cat(alloc: Global, s: &Scope, a: &Con, b: &Con) -> Result<Result<Kind, F
     of_cat(alloc, s, a, b, sides)
 }
 
+/// Finds the kind of a tuple, `(c, ..)`.
 #[cycle(find)]
 fn find_tuple(alloc: Global, s: &Scope, cs: &Cons) -> Result<Result<Kind, Flaw>, AllocError>
     ensures { IfOk result (λ r. found kind_tree r ≡ tuple_kind (kinding_all (scope_view s.now) (cons_tree cs.now))) }
@@ -230,6 +244,7 @@ fn find_tuple(alloc: Global, s: &Scope, cs: &Cons) -> Result<Result<Kind, Flaw>,
     Ok(of_tuple(find_all(alloc, s, cs)?))
 }
 
+/// Finds the kind of a component of a tuple, `a.1`.
 #[cycle(find)]
 fn find_proj(
     alloc: Global,
@@ -243,6 +258,7 @@ fn find_proj(
     of_proj(alloc, tuple, number)
 }
 
+/// Finds the kinds of constructors in order, or the first flaw of them.
 #[cycle(find)]
 fn find_all(alloc: Global, s: &Scope, cs: &Cons) -> Result<Result<Vec<Kind>, Flaw>, AllocError>
     ensures { IfOk result (λ r. found kind_trees r ≡ kinding_all (scope_view s.now) (cons_tree cs.now)) }
@@ -257,6 +273,7 @@ fn find_all(alloc: Global, s: &Scope, cs: &Cons) -> Result<Result<Vec<Kind>, Fla
     Ok(Ok(kinds))
 }
 
+/// Finds the kinds of the name and the value of each field in order, or the first flaw of them.
 #[cycle(find)]
 fn find_fields(alloc: Global, s: &Scope, ps: &Pairs) -> Result<Result<Vec<Two>, Flaw>, AllocError>
     ensures { IfOk result (λ r. found pair_trees r ≡ kinding_fields (scope_view s.now) (pairs_tree ps.now)) }

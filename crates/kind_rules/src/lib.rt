@@ -10,3 +10,8 @@ pub mod kinding;
 pub mod laws;
 mod rules;
 pub mod scope;
+
+pub use compare::{Comparison, Sides, comparison_fuel, flaw_between, normal_sides};
+pub use flaw::{Differing, Flaw, Two, both};
+pub use kinding::{judge, judge_at, kind_of};
+pub use scope::{Basic, Scope, kind_of_basic};

@@ -138,7 +138,7 @@ impl Scope {
         Ok(guards)
     }
 
-    // The scope with one more entry.
+    /// The scope with one more entry.
     fn with(&self, entry: Entry) -> Result<Scope, AllocError>
         ensures { IfOk result (λ new. scope_view new ≡ entered entry (scope_view self.now)) }
     {

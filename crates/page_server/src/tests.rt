@@ -78,6 +78,7 @@ fn honest(most: usize) -> Outside<'static> {
     }
 }
 
+/// A page comes whole where each call moves one byte.
 #[test]
 fn pieces_of_one_byte(rt: HostRuntime) -> Result<(), AllocError> {
     let (status, output) = run(rt.alloc(), MODULE, &honest(1))?;
@@ -86,6 +87,7 @@ fn pieces_of_one_byte(rt: HostRuntime) -> Result<(), AllocError> {
     Ok(())
 }
 
+/// A failing read ends the run with status 3, and nothing is written.
 #[test]
 fn reading_fails(rt: HostRuntime) -> Result<(), AllocError> {
     let mut outside = honest(9);
@@ -96,6 +98,7 @@ fn reading_fails(rt: HostRuntime) -> Result<(), AllocError> {
     Ok(())
 }
 
+/// A failing write, or one that takes nothing, ends the run with status 4; what was written is a front of the page.
 #[test]
 fn writing_fails_or_takes_nothing(rt: HostRuntime) -> Result<(), AllocError> {
     let mut outside = honest(9);
@@ -113,6 +116,7 @@ fn writing_fails_or_takes_nothing(rt: HostRuntime) -> Result<(), AllocError> {
     Ok(())
 }
 
+/// A refused module ends the run with status 1 and the line of its refusal.
 #[test]
 fn refusals(rt: HostRuntime) -> Result<(), AllocError> {
     let (status, output) = run(rt.alloc(), b"val x = \"a", &honest(9))?;
@@ -142,6 +146,7 @@ fn check(alloc: Global, module: &[u8], failing_reads: &[u64]) -> Result<(u8, Vec
     Ok((ended.status, line.output.written().to_vec(alloc)?))
 }
 
+/// A refused project ends the run with status 1 and the line of its refusal; a failing read with status 3.
 #[test]
 fn projects_are_checked(rt: HostRuntime) -> Result<(), AllocError> {
     let (status, output) = check(rt.alloc(), b"val x = ?", &[])?;

@@ -36,6 +36,7 @@ enum Answer {
 }
 
 impl Answer {
+    /// The words that it is printed with.
     fn word(&self) -> &'static str {
         match self {
             Answer::Waiting => "waiting",
@@ -46,6 +47,7 @@ impl Answer {
     }
 }
 
+/// What becomes of the normal form of a constructor that is so deep, of one form, with 100,000 units.
 fn answer_of(alloc: Global, form: Nested, depth: u32) -> Answer {
     let Ok(c) = nest(alloc, form, depth) else {
         return Answer::Memory;

@@ -11,6 +11,7 @@ mod measure;
 use anyhow::bail;
 use std::env;
 
+/// The small run, or the measurements.
 fn main(rt: HostRuntime) -> anyhow::Result<()> {
     let mut words = env::args(&rt)?;
     let _ = words.next();

@@ -14,6 +14,7 @@ const TIMES: u32 = 100;
 /// How many units each has.
 const UNITS: u32 = 100_000;
 
+/// How many units the normal form of a constructor takes; it is computed for that.
 fn unit_count(alloc: Global, c: &Con) -> anyhow::Result<u32> {
     let mut fuel = Fuel { left: UNITS };
     let _ = normal(alloc, c, &Kind::Types, &mut fuel)
@@ -22,6 +23,8 @@ fn unit_count(alloc: Global, c: &Con) -> anyhow::Result<u32> {
     Ok(UNITS.saturating_sub(fuel.left))
 }
 
+/// Prints a line with a constructor's name here, its units, and the microseconds that its normal form takes, on the
+/// average of all times that it is computed.
 fn timed<R: Print + Clock>(rt: &R, alloc: Global, name: &str, c: &Con) -> anyhow::Result<()> {
     let start = Instant::now(rt).ok().context("the clock")?;
     let mut units = 0;

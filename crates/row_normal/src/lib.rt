@@ -21,4 +21,9 @@ mod settled;
 mod steps;
 pub mod written;
 
+pub use form::Normal;
+pub use normal::{DEPTH, Fuel, NormalFault, con_of};
 pub use order::ordered;
+pub use pieces::{row_of_pieces, row_of_pieces_in_order};
+pub use same::same_con;
+pub use written::reduce_head;
