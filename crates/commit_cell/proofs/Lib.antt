@@ -1,5 +1,6 @@
 -- Lists, and how often a number stands in them: what the others share.
 pub mod Lists
+-- How often a number stands among those of the passes (for Moves, Worlds).
 pub mod Numbers
 -- For `worlds_keep_their_facts`: each event keeps a world's facts.
 pub mod Worlds

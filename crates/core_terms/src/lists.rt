@@ -23,7 +23,8 @@ impl Items {
 
     /// Adds a item at the end. An `Err` changes nothing.
     pub fn push(&mut self, item: Item) -> Result<(), AllocError>
-        ensures grown { OnOk result (item_list (items_tree self.new) ≡ item_list (items_tree self.old) ++ item_tree item ∷ []) }
+        ensures grown { OnOk result (item_list (items_tree self.new)
+            ≡ item_list (items_tree self.old) ++ item_tree item ∷ []) }
         ensures kept { OnErr result (item_list (items_tree self.new) ≡ item_list (items_tree self.old)) }
     {
         Ok(self.items.push(item)?)
@@ -60,7 +61,8 @@ impl NamedList {
 
     /// Adds a name at the end. An `Err` changes nothing.
     pub fn push(&mut self, name: Named) -> Result<(), AllocError>
-        ensures grown { OnOk result (name_list (named_list_tree self.new) ≡ name_list (named_list_tree self.old) ++ named_tree name ∷ []) }
+        ensures grown { OnOk result (name_list (named_list_tree self.new)
+            ≡ name_list (named_list_tree self.old) ++ named_tree name ∷ []) }
         ensures kept { OnErr result (name_list (named_list_tree self.new) ≡ name_list (named_list_tree self.old)) }
     {
         Ok(self.items.push(name)?)
@@ -97,7 +99,8 @@ impl Locals {
 
     /// Adds a declaration at the end. An `Err` changes nothing.
     pub fn push(&mut self, declaration: Local) -> Result<(), AllocError>
-        ensures grown { OnOk result (local_list (locals_tree self.new) ≡ local_list (locals_tree self.old) ++ local_tree declaration ∷ []) }
+        ensures grown { OnOk result (local_list (locals_tree self.new)
+            ≡ local_list (locals_tree self.old) ++ local_tree declaration ∷ []) }
         ensures kept { OnErr result (local_list (locals_tree self.new) ≡ local_list (locals_tree self.old)) }
     {
         Ok(self.items.push(declaration)?)
@@ -134,7 +137,8 @@ impl Branches {
 
     /// Adds a branch at the end. An `Err` changes nothing.
     pub fn push(&mut self, branch: Branch) -> Result<(), AllocError>
-        ensures grown { OnOk result (branch_list (branches_tree self.new) ≡ branch_list (branches_tree self.old) ++ branch_tree branch ∷ []) }
+        ensures grown { OnOk result (branch_list (branches_tree self.new)
+            ≡ branch_list (branches_tree self.old) ++ branch_tree branch ∷ []) }
         ensures kept { OnErr result (branch_list (branches_tree self.new) ≡ branch_list (branches_tree self.old)) }
     {
         Ok(self.items.push(branch)?)
@@ -171,7 +175,8 @@ impl Fields {
 
     /// Adds a field at the end. An `Err` changes nothing.
     pub fn push(&mut self, field: Field) -> Result<(), AllocError>
-        ensures grown { OnOk result (field_list (fields_tree self.new) ≡ field_list (fields_tree self.old) ++ field_tree field ∷ []) }
+        ensures grown { OnOk result (field_list (fields_tree self.new)
+            ≡ field_list (fields_tree self.old) ++ field_tree field ∷ []) }
         ensures kept { OnErr result (field_list (fields_tree self.new) ≡ field_list (fields_tree self.old)) }
     {
         Ok(self.items.push(field)?)
@@ -208,8 +213,10 @@ impl Attributes {
 
     /// Adds a attribute at the end. An `Err` changes nothing.
     pub fn push(&mut self, attribute: Attribute) -> Result<(), AllocError>
-        ensures grown { OnOk result (attribute_list (attributes_tree self.new) ≡ attribute_list (attributes_tree self.old) ++ attribute_tree attribute ∷ []) }
-        ensures kept { OnErr result (attribute_list (attributes_tree self.new) ≡ attribute_list (attributes_tree self.old)) }
+        ensures grown { OnOk result (attribute_list (attributes_tree self.new)
+            ≡ attribute_list (attributes_tree self.old) ++ attribute_tree attribute ∷ []) }
+        ensures kept { OnErr result (attribute_list (attributes_tree self.new)
+            ≡ attribute_list (attributes_tree self.old)) }
     {
         Ok(self.items.push(attribute)?)
     }
@@ -245,7 +252,8 @@ impl Exps {
 
     /// Adds a term at the end. An `Err` changes nothing.
     pub fn push(&mut self, term: Exp) -> Result<(), AllocError>
-        ensures grown { OnOk result (exp_list (exps_tree self.new) ≡ exp_list (exps_tree self.old) ++ exp_tree term ∷ []) }
+        ensures grown { OnOk result (exp_list (exps_tree self.new)
+            ≡ exp_list (exps_tree self.old) ++ exp_tree term ∷ []) }
         ensures kept { OnErr result (exp_list (exps_tree self.new) ≡ exp_list (exps_tree self.old)) }
     {
         Ok(self.items.push(term)?)
@@ -282,7 +290,8 @@ impl Nodes {
 
     /// Adds a node at the end. An `Err` changes nothing.
     pub fn push(&mut self, node: Node) -> Result<(), AllocError>
-        ensures grown { OnOk result (node_list (nodes_tree self.new) ≡ node_list (nodes_tree self.old) ++ node_tree node ∷ []) }
+        ensures grown { OnOk result (node_list (nodes_tree self.new)
+            ≡ node_list (nodes_tree self.old) ++ node_tree node ∷ []) }
         ensures kept { OnErr result (node_list (nodes_tree self.new) ≡ node_list (nodes_tree self.old)) }
     {
         Ok(self.items.push(node)?)
@@ -319,8 +328,10 @@ impl PatFields {
 
     /// Adds a field at the end. An `Err` changes nothing.
     pub fn push(&mut self, field: PatField) -> Result<(), AllocError>
-        ensures grown { OnOk result (pat_field_list (pat_fields_tree self.new) ≡ pat_field_list (pat_fields_tree self.old) ++ pat_field_tree field ∷ []) }
-        ensures kept { OnErr result (pat_field_list (pat_fields_tree self.new) ≡ pat_field_list (pat_fields_tree self.old)) }
+        ensures grown { OnOk result (pat_field_list (pat_fields_tree self.new)
+            ≡ pat_field_list (pat_fields_tree self.old) ++ pat_field_tree field ∷ []) }
+        ensures kept { OnErr result (pat_field_list (pat_fields_tree self.new)
+            ≡ pat_field_list (pat_fields_tree self.old)) }
     {
         Ok(self.items.push(field)?)
     }

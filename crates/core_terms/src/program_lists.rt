@@ -57,7 +57,8 @@ impl Constructors {
 
     /// Adds a constructor at the end. An `Err` changes nothing.
     pub fn push(&mut self, constructor: Constructor) -> Result<(), AllocError>
-        ensures grown { OnOk result (constructors_view self.new ≡ constructors_view self.old ++ constructor_view constructor ∷ []) }
+        ensures grown { OnOk result (constructors_view self.new
+            ≡ constructors_view self.old ++ constructor_view constructor ∷ []) }
         ensures kept { OnErr result (constructors_view self.new ≡ constructors_view self.old) }
     {
         Ok(self.items.push(constructor)?)

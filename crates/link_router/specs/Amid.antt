@@ -21,13 +21,18 @@ in_front (w ∷ ws) vs = wire w (in_front ws vs)
 abbrev pub Completes : List Cases → List Waiting → Wr → List (List ℕ) → Wr → List (List ℕ) → Type 0
 Completes D [] w ps v qs = (w ≡ v) × (ps ≡ qs)
 Completes D (holds n ∷ ls) w ps v qs = Completes D ls (tagged n w) ps v qs
-Completes D (fields ws fs ∷ ls) w ps v qs = (us : Wrs) × (rs : List (List ℕ)) × ReadsParts D fs ps us rs × Completes D ls (rec_of (in_front ws (wire w us))) rs v qs
+Completes D (fields ws fs ∷ ls) w ps v qs =
+    (us : Wrs) × (rs : List (List ℕ)) × ReadsParts D fs ps us rs
+    × Completes D ls (rec_of (in_front ws (wire w us))) rs v qs
 
 -- Or it stops behind that value.
 abbrev pub Halts : List Cases → List Waiting → Wr → List (List ℕ) → Stop → Type 0
 Halts D [] w ps x = ⊥
 Halts D (holds n ∷ ls) w ps x = Halts D ls (tagged n w) ps x
-Halts D (fields ws fs ∷ ls) w ps x = StopsParts D fs ps x ⊎ ((us : Wrs) × (rs : List (List ℕ)) × ReadsParts D fs ps us rs × Halts D ls (rec_of (in_front ws (wire w us))) rs x)
+Halts D (fields ws fs ∷ ls) w ps x =
+    StopsParts D fs ps x
+    ⊎ ((us : Wrs) × (rs : List (List ℕ)) × ReadsParts D fs ps us rs
+    × Halts D ls (rec_of (in_front ws (wire w us))) rs x)
 
 -- how far a reading came: with these waiting and these pieces left, a value of a shape is wanted, or one was read
 pub data Amid : Type 0 where

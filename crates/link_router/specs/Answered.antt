@@ -16,7 +16,8 @@ pub record FitsEntry (post : Bool) (pieces : List (List ℕ)) (e : Ent) (rest : 
   pub begins : pieces ≡ e.name ++ rest
 
 -- the entry at this place does
-pub record FoundEntry (routes : Rts) (post : Bool) (pieces : List (List ℕ)) (i : ℕ) (e : Ent) (rest : List (List ℕ)) : Type 0 where
+pub record FoundEntry (routes : Rts) (post : Bool) (pieces : List (List ℕ)) (i : ℕ) (e : Ent)
+    (rest : List (List ℕ)) : Type 0 where
   pub there : slice_get routes.entries i ≡ Some e
   pub fits : FitsEntry post pieces e rest
 
@@ -35,9 +36,11 @@ pub record IsCallAt (D : List Cases) (i : ℕ) (e : Ent) (rest : List (List ℕ)
 abbrev pub StraysAt : List Cases → Ent → List (List ℕ) → LinkFault → Type 0
 StraysAt D e rest NoRoute = ⊥
 StraysAt D e rest OtherMethod = ⊥
-StraysAt D e rest (BadPiece i) = (left : List (List ℕ)) × StopsAll D e.arguments rest (bad left) × (i ≡ length rest - length left)
+StraysAt D e rest (BadPiece i) =
+    (left : List (List ℕ)) × StopsAll D e.arguments rest (bad left) × (i ≡ length rest - length left)
 StraysAt D e rest TooFewPieces = StopsAll D e.arguments rest few
-StraysAt D e rest TooManyPieces = (ws : Wrs) × (p : List ℕ) × (left : List (List ℕ)) × ReadsAll D e.arguments rest ws (p ∷ left)
+StraysAt D e rest TooManyPieces =
+    (ws : Wrs) × (p : List ℕ) × (left : List (List ℕ)) × ReadsAll D e.arguments rest ws (p ∷ left)
 StraysAt D e rest Memory = Unit {0}
 
 -- the refusal that a fault tells

@@ -42,7 +42,8 @@ mutual
         → slice_get D d ≡ Some cs
         → Contains cs (p, None)
         → Reads D (a_data d ss) (p ∷ ps) (bare p) ps
-    reads_tagged : {D : List Cases} {d : ℕ} {ss : Shs} {cs : Cases} {s : Sh} {p : List ℕ} {ps qs : List (List ℕ)} {w : Wr}
+    reads_tagged : {D : List Cases} {d : ℕ} {ss : Shs} {cs : Cases} {s : Sh} {p : List ℕ}
+        {ps qs : List (List ℕ)} {w : Wr}
         → slice_get D d ≡ Some cs
         → Contains cs (p, Some s)
         → Reads D (at_arguments ss s) ps w qs

@@ -21,7 +21,8 @@ Fits target e rest = path_pieces (path_of target) ≡ Some (e.name ++ rest)
 
 -- no entry that is read by this method has its name there
 abbrev pub NoneFits : Rts → Bool → List ℕ → Type 0
-NoneFits routes post target = (e : Ent) (rest : List (List ℕ)) → Contains routes.entries e → is_post e.form ≡ post → Fits target e rest → ⊥
+NoneFits routes post target =
+    (e : Ent) (rest : List (List ℕ)) → Contains routes.entries e → is_post e.form ≡ post → Fits target e rest → ⊥
 
 -- an entry that is read by this method has its name there
 pub record OneFits (routes : Rts) (post : Bool) (target : List ℕ) (e : Ent) (rest : List (List ℕ)) : Type 0 where
@@ -49,7 +50,8 @@ pub data Refuses : Rts → Bool → List ℕ → Astray → Type 0 where
       → OneFits routes post target e rest
       → StopsAll routes.datatypes e.arguments rest few
       → Refuses routes post target too_few
-  has_too_many : {routes : Rts} {post : Bool} {target : List ℕ} {e : Ent} {rest : List (List ℕ)} {ws : Wrs} {p : List ℕ} {left : List (List ℕ)}
+  has_too_many : {routes : Rts} {post : Bool} {target : List ℕ} {e : Ent} {rest : List (List ℕ)}
+      {ws : Wrs} {p : List ℕ} {left : List (List ℕ)}
       → OneFits routes post target e rest
       → ReadsAll routes.datatypes e.arguments rest ws (p ∷ left)
       → Refuses routes post target too_many

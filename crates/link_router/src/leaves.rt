@@ -66,7 +66,8 @@ pub fn truth(piece: &[u8]) -> Option<&'static str>
 
 /// The constructor of a datatype that a piece names.
 pub fn case_named<'r>(datatype: &'r Datatype, piece: &[u8]) -> Option<&'r Case>
-    ensures some { IfSome result (λ found. Contains (datatype_view datatype.now) (piece.now, maybe_shape found.now.holds)
+    ensures some { IfSome result (λ found. Contains (datatype_view datatype.now)
+        (piece.now, maybe_shape found.now.holds)
         × (found.now.name ≡ piece.now)) }
     ensures none { IfNone result (Names (datatype_view datatype.now) piece.now → ⊥) }
 {

@@ -116,7 +116,8 @@ fn pieces_between(alloc: Global, bytes: &[u8]) -> Result<Vec<Bytes>, AllocError>
 
 /// The pieces of a target's path, percent-decoded. A path that doesn't begin with a slash has none.
 pub fn target_pieces(alloc: Global, target: &[u8]) -> Result<Option<Vec<Bytes>>, AllocError>
-    ensures some { IfOk result (λ found. IfSome found (λ pieces. path_pieces (path_of target.now) ≡ Some pieces.items)) }
+    ensures some { IfOk result (λ found.
+        IfSome found (λ pieces. path_pieces (path_of target.now) ≡ Some pieces.items)) }
     ensures none { IfOk result (λ found. IfNone found (path_pieces (path_of target.now) ≡ None)) }
 {
     let Some((first, others)) = path(target).split_first() else {

@@ -14,8 +14,8 @@ use request_region::Region;
 use std::alloc::{AllocError, Global};
 use table_rows::{Arguments, Datatypes, Parts, Shape, Text, Wire, Wires};
 
-/// The most steps in which one value is read. That a value has so many parts without a piece of their own counts as want of
-/// memory.
+/// The most steps in which one value is read. That a value has so many parts without a piece of their own counts as
+/// want of memory.
 const MOST_STEPS: u32 = 1_000_000;
 
 /// Reads a number.
@@ -89,7 +89,10 @@ fn begin_record<'r>(
     stack: &mut Stack<'r>,
 ) -> Result<Step<'r>, AllocError>
     ensures { (D : List Cases) (ps : List (List ℕ)) → IfOk result (λ step.
-        LeadsTo D (wants (stack_view stack.old) (a_record (parts_at_arguments (scope_shapes scope.now) (parts_tree parts.now))) ps) (amid step (stack_view stack.new) ps)) }
+        LeadsTo D
+        (wants (stack_view stack.old)
+        (a_record (parts_at_arguments (scope_shapes scope.now) (parts_tree parts.now))) ps)
+        (amid step (stack_view stack.new) ps)) }
 {
     match parts.items.as_slice().split_first() {
         None => Ok(Step::Has(Wire::Rec(Wires::new(alloc)))),
@@ -113,10 +116,12 @@ fn begin_data<'r>(
     stack: &mut Stack<'r>,
 ) -> Result<Step<'r>, Stopped>
     ensures ok { IfOk result (λ step. LeadsTo (datatypes_view datatypes.now)
-        (wants (stack_view stack.old) (a_data place (all_at_arguments (scope_shapes scope.now) (arguments_tree arguments.now))) pieces.old)
+        (wants (stack_view stack.old)
+        (a_data place (all_at_arguments (scope_shapes scope.now) (arguments_tree arguments.now))) pieces.old)
         (amid step (stack_view stack.new) pieces.new)) }
     ensures err { IfErr result (λ stopped. StopsSo (datatypes_view datatypes.now)
-        (a_data place (all_at_arguments (scope_shapes scope.now) (arguments_tree arguments.now))) pieces.old pieces.new stopped) }
+        (a_data place (all_at_arguments (scope_shapes scope.now) (arguments_tree arguments.now)))
+        pieces.old pieces.new stopped) }
 {
     let Some(piece) = pieces.first() else {
         return Err(Stopped::Few);
@@ -149,8 +154,10 @@ fn begin<'r>(
     stack: &mut Stack<'r>,
 ) -> Result<Step<'r>, Stopped>
     ensures ok { IfOk result (λ step. LeadsTo (datatypes_view datatypes.now)
-        (wants (stack_view stack.old) (closed_tree wanted.entry) pieces.old) (amid step (stack_view stack.new) pieces.new)) }
-    ensures err { IfErr result (λ stopped. StopsSo (datatypes_view datatypes.now) (closed_tree wanted.entry) pieces.old pieces.new stopped) }
+        (wants (stack_view stack.old) (closed_tree wanted.entry) pieces.old)
+        (amid step (stack_view stack.new) pieces.new)) }
+    ensures err { IfErr result (λ stopped. StopsSo (datatypes_view datatypes.now) (closed_tree wanted.entry)
+        pieces.old pieces.new stopped) }
 {
     let Closed { shape, scope } = wanted;
     match shape {
@@ -189,7 +196,8 @@ fn handed_up<'r>(
     stack: &mut Stack<'r>,
 ) -> Result<Step<'r>, AllocError>
     ensures { (D : List Cases) (ps : List (List ℕ)) → IfOk result (λ step.
-        LeadsTo D (has (frame_view frame.entry ∷ stack_view stack.old) (wire_tree wire) ps) (amid step (stack_view stack.new) ps)) }
+        LeadsTo D (has (frame_view frame.entry ∷ stack_view stack.old) (wire_tree wire) ps)
+        (amid step (stack_view stack.new) ps)) }
 {
     match frame {
         Frame::Held(name) => {
@@ -221,7 +229,8 @@ fn moved<'r>(
 ) -> Result<Moved<'r>, Stopped>
     ensures ok { IfOk result (λ next. LeadsTo (datatypes_view datatypes.now)
         (amid step.entry (stack_view stack.old) pieces.old) (moved_to next (stack_view stack.new) pieces.new)) }
-    ensures err { IfErr result (λ stopped. EndsSo (datatypes_view datatypes.now) (amid step.entry (stack_view stack.old) pieces.old) pieces.new stopped) }
+    ensures err { IfErr result (λ stopped. EndsSo (datatypes_view datatypes.now)
+        (amid step.entry (stack_view stack.old) pieces.old) pieces.new stopped) }
 {
     match step {
         Step::Wants(wanted) => match begin(alloc, region, datatypes, wanted, pieces, stack) {
@@ -246,8 +255,10 @@ fn read_value<'r>(
     shape: &'r Shape,
     pieces: &mut Pieces,
 ) -> Result<Wire, Stopped>
-    ensures ok { IfOk result (λ wire. Reads (datatypes_view datatypes.now) (shape_tree shape.now) pieces.old (wire_tree wire) pieces.new) }
-    ensures err { IfErr result (λ stopped. StopsSo (datatypes_view datatypes.now) (shape_tree shape.now) pieces.old pieces.new stopped) }
+    ensures ok { IfOk result (λ wire. Reads (datatypes_view datatypes.now) (shape_tree shape.now)
+        pieces.old (wire_tree wire) pieces.new) }
+    ensures err { IfErr result (λ stopped. StopsSo (datatypes_view datatypes.now) (shape_tree shape.now)
+        pieces.old pieces.new stopped) }
 {
     let mut stack = Stack::new(alloc);
     let scope = region.put_slice(&[])?;
@@ -269,8 +280,10 @@ pub fn read_arguments(
     arguments: &Arguments,
     pieces: &mut Pieces,
 ) -> Result<Wires, Stopped>
-    ensures ok { IfOk result (λ wires. ReadsAll (datatypes_view datatypes.now) (arguments_tree arguments.now) pieces.old (wires_tree wires) pieces.new) }
-    ensures err { IfErr result (λ stopped. StopsAllSo (datatypes_view datatypes.now) (arguments_tree arguments.now) pieces.old pieces.new stopped) }
+    ensures ok { IfOk result (λ wires. ReadsAll (datatypes_view datatypes.now) (arguments_tree arguments.now)
+        pieces.old (wires_tree wires) pieces.new) }
+    ensures err { IfErr result (λ stopped. StopsAllSo (datatypes_view datatypes.now) (arguments_tree arguments.now)
+        pieces.old pieces.new stopped) }
 {
     let region = Region::new(alloc);
     let mut wires = Wires::new(alloc);

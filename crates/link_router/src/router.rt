@@ -78,7 +78,8 @@ fn entry_named<'e, 'p>(
     post: bool,
     pieces: &'p [Bytes],
 ) -> Option<(usize, &'e Entry, &'p [Bytes])>
-    ensures some { IfSome result (λ found. FoundEntry (routes_view routes.now) post pieces.now found.0 (entry_view found.1.now) found.2.now) }
+    ensures some { IfSome result (λ found. FoundEntry (routes_view routes.now) post pieces.now
+        found.0 (entry_view found.1.now) found.2.now) }
     ensures none { IfNone result (NoEntryFound (routes_view routes.now) post pieces.now) }
 {
     for i in 0..routes.entries.len() {
@@ -99,8 +100,10 @@ fn called_at(
     entry: &Entry,
     rest: &[Bytes],
 ) -> Result<Call, LinkFault>
-    ensures read { IfOk result (λ call. IsCallAt (datatypes_view datatypes.now) place (entry_view entry.now) rest.now (call_view call)) }
-    ensures refused { IfErr result (λ fault. StraysAt (datatypes_view datatypes.now) (entry_view entry.now) rest.now fault) }
+    ensures read { IfOk result (λ call. IsCallAt (datatypes_view datatypes.now) place (entry_view entry.now)
+        rest.now (call_view call)) }
+    ensures refused { IfErr result (λ fault. StraysAt (datatypes_view datatypes.now) (entry_view entry.now)
+        rest.now fault) }
 {
     if place > 0xffff_ffff {
         return Err(LinkFault::Memory);
@@ -126,7 +129,8 @@ fn called_at(
 
 /// Why pieces that begin with no entry's name, read by this method, are no call.
 fn astray(routes: &Routes, post: bool, pieces: &[Bytes]) -> LinkFault
-    ensures { (target : List ℕ) → path_pieces (path_of target) ≡ Some pieces.now → NoEntryFound (routes_view routes.now) post pieces.now
+    ensures { (target : List ℕ) → path_pieces (path_of target) ≡ Some pieces.now
+        → NoEntryFound (routes_view routes.now) post pieces.now
         → IsRefusal (routes_view routes.now) post target result }
 {
     match entry_named(routes, !post, pieces) {
@@ -169,9 +173,12 @@ fn called(alloc: Global, routes: &Routes, post: bool, target: &[u8]) -> Result<C
 pub fn read_link(alloc: Global, routes: &Routes, post: bool, path: &Text) -> Result<Call, LinkFault>
     ensures read { IfOk result (λ call. ReadAs (routes_view routes.now) post path.now (call_view call)) }
     ensures refused { IfErr result (λ fault. IsRefusal (routes_view routes.now) post path.now fault) }
-    ensures route { AreNamed (routes_view routes.now) → IfOk result (λ call. Route (routes_view routes.now) post path.now (call_view call)) }
-    ensures each_route { AreNamed (routes_view routes.now) → (call : Cl) → Route (routes_view routes.now) post path.now call → AnswersCall result call }
-    ensures each_refusal { AreNamed (routes_view routes.now) → (why : Astray) → Refuses (routes_view routes.now) post path.now why → AnswersSo result why }
+    ensures route { AreNamed (routes_view routes.now)
+        → IfOk result (λ call. Route (routes_view routes.now) post path.now (call_view call)) }
+    ensures each_route { AreNamed (routes_view routes.now) → (call : Cl)
+        → Route (routes_view routes.now) post path.now call → AnswersCall result call }
+    ensures each_refusal { AreNamed (routes_view routes.now) → (why : Astray)
+        → Refuses (routes_view routes.now) post path.now why → AnswersSo result why }
 {
     called(alloc, routes, post, path.as_bytes())
 }

@@ -38,7 +38,8 @@ pub fn entered<'r>(
     arguments: &'r Arguments,
     scope: &'r [Closed<'r>],
 ) -> Result<&'r [Closed<'r>], AllocError>
-    ensures { IfOk result (λ inner. scope_shapes inner.now ≡ all_at_arguments (scope_shapes scope.now) (arguments_tree arguments.now)) }
+    ensures { IfOk result (λ inner. scope_shapes inner.now
+        ≡ all_at_arguments (scope_shapes scope.now) (arguments_tree arguments.now)) }
 {
     let mut inner = Vec::new(alloc);
     for i in 0..arguments.items.len() {

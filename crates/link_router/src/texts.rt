@@ -73,8 +73,10 @@ fn push_value<'w>(
     wire: &'w Wire,
     agenda: &mut Agenda<'w>,
 ) -> Result<(), AllocError>
-    ensures written { OnOk result (text.new ++ pending (agenda_view agenda.new) ≡ text.old ++ (joined (pieces (wire_tree wire.now)) ++ pending (agenda_view agenda.old))) }
-    ensures lighter { OnOk result (all_loads (agenda_view agenda.new) ≡ load (wire_tree wire.now) + all_loads (agenda_view agenda.old)) }
+    ensures written { OnOk result (text.new ++ pending (agenda_view agenda.new)
+        ≡ text.old ++ (joined (pieces (wire_tree wire.now)) ++ pending (agenda_view agenda.old))) }
+    ensures lighter { OnOk result (all_loads (agenda_view agenda.new)
+        ≡ load (wire_tree wire.now) + all_loads (agenda_view agenda.old)) }
 {
     match wire {
         Wire::Int(number) => push_piece(text, Buffer::new().format(*number)),

@@ -6,6 +6,7 @@ mod Inputs
 mod OneAnswer
 -- For `modules_have_one_refusal`: what is told of a module's tokens, and the reasons.
 mod OneTold
+-- A module has one refusal at most (law `modules_have_one_refusal`).
 mod OneRefusal
 -- For `page_of`'s `refused`: from the parser's answer to the module's refusal.
 mod Refusing

@@ -73,7 +73,10 @@ abbrev pub nodes_from : List NodeTree → NodesTree
 nodes_from [] = no_nodes
 nodes_from (x ∷ xs) = more_nodes x (nodes_from xs)
 
-abbrev pub form_step : Form-F FormTree ItemTree LinkTree LocalTree NodeTree AttributeTree AttributesTree BranchTree BranchesTree ExpTree ExpsTree FieldTree FieldsTree ItemsTree LinksTree LocalsTree NamedTree NamedListTree NodesTree → FormTree
+abbrev pub form_step : Form-F FormTree ItemTree LinkTree LocalTree NodeTree AttributeTree AttributesTree BranchTree
+    BranchesTree ExpTree ExpsTree FieldTree FieldsTree ItemsTree LinksTree LocalsTree NamedTree NamedListTree
+    NodesTree
+    → FormTree
 form_step (Form-F.Int x0) = exp_int x0
 form_step (Form-F.Words x0) = exp_words x0
 form_step (Form-F.Name x0 x1) = exp_name x0 x1
@@ -89,140 +92,250 @@ form_step (Form-F.Chain x0 x1) = exp_chain x0.value x1
 form_step (Form-F.Xml x0) = exp_xml x0
 form_step (Form-F.Sql x0 x1) = exp_sql (sql_tree x0.value) x1
 
-abbrev pub item_step : Item-F FormTree ItemTree LinkTree LocalTree NodeTree AttributeTree AttributesTree BranchTree BranchesTree ExpTree ExpsTree FieldTree FieldsTree ItemsTree LinksTree LocalsTree NamedTree NamedListTree NodesTree → ItemTree
+abbrev pub item_step : Item-F FormTree ItemTree LinkTree LocalTree NodeTree AttributeTree AttributesTree BranchTree
+    BranchesTree ExpTree ExpsTree FieldTree FieldsTree ItemsTree LinksTree LocalsTree NamedTree NamedListTree
+    NodesTree
+    → ItemTree
 item_step (Item-F.Term x0) = item_term x0
 item_step (Item-F.Con x0 x1) = item_con x0 (con_tree x1)
 item_step (Item-F.Guard x0) = item_guard x0
 
-abbrev pub link_step : Link-F FormTree ItemTree LinkTree LocalTree NodeTree AttributeTree AttributesTree BranchTree BranchesTree ExpTree ExpsTree FieldTree FieldsTree ItemsTree LinksTree LocalsTree NamedTree NamedListTree NodesTree → LinkTree
+abbrev pub link_step : Link-F FormTree ItemTree LinkTree LocalTree NodeTree AttributeTree AttributesTree BranchTree
+    BranchesTree ExpTree ExpsTree FieldTree FieldsTree ItemsTree LinksTree LocalsTree NamedTree NamedListTree
+    NodesTree
+    → LinkTree
 link_step (Link-F.Infix x0 x1 x2) = link_infix x0 x1 x2
 link_step (Link-F.Field x0) = link_field (con_tree x0)
 link_step (Link-F.Without x0 x1) = link_without x0 (con_tree x1)
 link_step (Link-F.WithoutRow x0 x1) = link_without_row x0 (con_tree x1)
 
-abbrev pub local_step : Local-F FormTree ItemTree LinkTree LocalTree NodeTree AttributeTree AttributesTree BranchTree BranchesTree ExpTree ExpsTree FieldTree FieldsTree ItemsTree LinksTree LocalsTree NamedTree NamedListTree NodesTree → LocalTree
+abbrev pub local_step : Local-F FormTree ItemTree LinkTree LocalTree NodeTree AttributeTree AttributesTree BranchTree
+    BranchesTree ExpTree ExpsTree FieldTree FieldsTree ItemsTree LinksTree LocalsTree NamedTree NamedListTree
+    NodesTree
+    → LocalTree
 local_step (Local-F.Val x0 x1) = local_val x0 x1
 local_step (Local-F.ValRec x0 x1) = local_rec x0 x1
 
-abbrev pub node_step : Node-F FormTree ItemTree LinkTree LocalTree NodeTree AttributeTree AttributesTree BranchTree BranchesTree ExpTree ExpsTree FieldTree FieldsTree ItemsTree LinksTree LocalsTree NamedTree NamedListTree NodesTree → NodeTree
+abbrev pub node_step : Node-F FormTree ItemTree LinkTree LocalTree NodeTree AttributeTree AttributesTree BranchTree
+    BranchesTree ExpTree ExpsTree FieldTree FieldsTree ItemsTree LinksTree LocalsTree NamedTree NamedListTree
+    NodesTree
+    → NodeTree
 node_step (Node-F.Run x0 x1) = node_run x0 x1
 node_step (Node-F.Exp x0 x1) = node_exp x0 x1
 node_step (Node-F.Element x0 x1 x2 x3 x4) = node_element x0 x1 (maybe_con x2) x3 x4
 
-abbrev pub attribute_step : Attribute-F FormTree ItemTree LinkTree LocalTree NodeTree AttributeTree AttributesTree BranchTree BranchesTree ExpTree ExpsTree FieldTree FieldsTree ItemsTree LinksTree LocalsTree NamedTree NamedListTree NodesTree → AttributeTree
+abbrev pub attribute_step : Attribute-F FormTree ItemTree LinkTree LocalTree NodeTree AttributeTree AttributesTree
+    BranchTree BranchesTree ExpTree ExpsTree FieldTree FieldsTree ItemsTree LinksTree LocalsTree NamedTree
+    NamedListTree NodesTree
+    → AttributeTree
 attribute_step x = attribute x.name x.value
 
-abbrev pub attributes_step : Attributes-F FormTree ItemTree LinkTree LocalTree NodeTree AttributeTree AttributesTree BranchTree BranchesTree ExpTree ExpsTree FieldTree FieldsTree ItemsTree LinksTree LocalsTree NamedTree NamedListTree NodesTree → AttributesTree
+abbrev pub attributes_step : Attributes-F FormTree ItemTree LinkTree LocalTree NodeTree AttributeTree AttributesTree
+    BranchTree BranchesTree ExpTree ExpsTree FieldTree FieldsTree ItemsTree LinksTree LocalsTree NamedTree
+    NamedListTree NodesTree
+    → AttributesTree
 attributes_step x = attributes_from x.items.items
 
-abbrev pub branch_step : Branch-F FormTree ItemTree LinkTree LocalTree NodeTree AttributeTree AttributesTree BranchTree BranchesTree ExpTree ExpsTree FieldTree FieldsTree ItemsTree LinksTree LocalsTree NamedTree NamedListTree NodesTree → BranchTree
+abbrev pub branch_step : Branch-F FormTree ItemTree LinkTree LocalTree NodeTree AttributeTree AttributesTree
+    BranchTree BranchesTree ExpTree ExpsTree FieldTree FieldsTree ItemsTree LinksTree LocalsTree NamedTree
+    NamedListTree NodesTree
+    → BranchTree
 branch_step x = branch x.at (pat_tree x.pat) x.body
 
-abbrev pub branches_step : Branches-F FormTree ItemTree LinkTree LocalTree NodeTree AttributeTree AttributesTree BranchTree BranchesTree ExpTree ExpsTree FieldTree FieldsTree ItemsTree LinksTree LocalsTree NamedTree NamedListTree NodesTree → BranchesTree
+abbrev pub branches_step : Branches-F FormTree ItemTree LinkTree LocalTree NodeTree AttributeTree AttributesTree
+    BranchTree BranchesTree ExpTree ExpsTree FieldTree FieldsTree ItemsTree LinksTree LocalsTree NamedTree
+    NamedListTree NodesTree
+    → BranchesTree
 branches_step x = branches_from x.items.items
 
-abbrev pub exp_step : Exp-F FormTree ItemTree LinkTree LocalTree NodeTree AttributeTree AttributesTree BranchTree BranchesTree ExpTree ExpsTree FieldTree FieldsTree ItemsTree LinksTree LocalsTree NamedTree NamedListTree NodesTree → ExpTree
+abbrev pub exp_step : Exp-F FormTree ItemTree LinkTree LocalTree NodeTree AttributeTree AttributesTree BranchTree
+    BranchesTree ExpTree ExpsTree FieldTree FieldsTree ItemsTree LinksTree LocalsTree NamedTree NamedListTree
+    NodesTree
+    → ExpTree
 exp_step x = exp x.at x.form
 
-abbrev pub exps_step : Exps-F FormTree ItemTree LinkTree LocalTree NodeTree AttributeTree AttributesTree BranchTree BranchesTree ExpTree ExpsTree FieldTree FieldsTree ItemsTree LinksTree LocalsTree NamedTree NamedListTree NodesTree → ExpsTree
+abbrev pub exps_step : Exps-F FormTree ItemTree LinkTree LocalTree NodeTree AttributeTree AttributesTree BranchTree
+    BranchesTree ExpTree ExpsTree FieldTree FieldsTree ItemsTree LinksTree LocalsTree NamedTree NamedListTree
+    NodesTree
+    → ExpsTree
 exps_step x = exps_from x.items.items
 
-abbrev pub field_step : Field-F FormTree ItemTree LinkTree LocalTree NodeTree AttributeTree AttributesTree BranchTree BranchesTree ExpTree ExpsTree FieldTree FieldsTree ItemsTree LinksTree LocalsTree NamedTree NamedListTree NodesTree → FieldTree
+abbrev pub field_step : Field-F FormTree ItemTree LinkTree LocalTree NodeTree AttributeTree AttributesTree BranchTree
+    BranchesTree ExpTree ExpsTree FieldTree FieldsTree ItemsTree LinksTree LocalsTree NamedTree NamedListTree
+    NodesTree
+    → FieldTree
 field_step x = field x.at (con_tree x.name) x.value
 
-abbrev pub fields_step : Fields-F FormTree ItemTree LinkTree LocalTree NodeTree AttributeTree AttributesTree BranchTree BranchesTree ExpTree ExpsTree FieldTree FieldsTree ItemsTree LinksTree LocalsTree NamedTree NamedListTree NodesTree → FieldsTree
+abbrev pub fields_step : Fields-F FormTree ItemTree LinkTree LocalTree NodeTree AttributeTree AttributesTree
+    BranchTree BranchesTree ExpTree ExpsTree FieldTree FieldsTree ItemsTree LinksTree LocalsTree NamedTree
+    NamedListTree NodesTree
+    → FieldsTree
 fields_step x = fields_from x.items.items
 
-abbrev pub items_step : Items-F FormTree ItemTree LinkTree LocalTree NodeTree AttributeTree AttributesTree BranchTree BranchesTree ExpTree ExpsTree FieldTree FieldsTree ItemsTree LinksTree LocalsTree NamedTree NamedListTree NodesTree → ItemsTree
+abbrev pub items_step : Items-F FormTree ItemTree LinkTree LocalTree NodeTree AttributeTree AttributesTree BranchTree
+    BranchesTree ExpTree ExpsTree FieldTree FieldsTree ItemsTree LinksTree LocalsTree NamedTree NamedListTree
+    NodesTree
+    → ItemsTree
 items_step x = items_from x.items.items
 
-abbrev pub links_step : Links-F FormTree ItemTree LinkTree LocalTree NodeTree AttributeTree AttributesTree BranchTree BranchesTree ExpTree ExpsTree FieldTree FieldsTree ItemsTree LinksTree LocalsTree NamedTree NamedListTree NodesTree → LinksTree
+abbrev pub links_step : Links-F FormTree ItemTree LinkTree LocalTree NodeTree AttributeTree AttributesTree BranchTree
+    BranchesTree ExpTree ExpsTree FieldTree FieldsTree ItemsTree LinksTree LocalsTree NamedTree NamedListTree
+    NodesTree
+    → LinksTree
 links_step x = links_from x.items.items
 
-abbrev pub locals_step : Locals-F FormTree ItemTree LinkTree LocalTree NodeTree AttributeTree AttributesTree BranchTree BranchesTree ExpTree ExpsTree FieldTree FieldsTree ItemsTree LinksTree LocalsTree NamedTree NamedListTree NodesTree → LocalsTree
+abbrev pub locals_step : Locals-F FormTree ItemTree LinkTree LocalTree NodeTree AttributeTree AttributesTree
+    BranchTree BranchesTree ExpTree ExpsTree FieldTree FieldsTree ItemsTree LinksTree LocalsTree NamedTree
+    NamedListTree NodesTree
+    → LocalsTree
 locals_step x = locals_from x.items.items
 
-abbrev pub named_step : Named-F FormTree ItemTree LinkTree LocalTree NodeTree AttributeTree AttributesTree BranchTree BranchesTree ExpTree ExpsTree FieldTree FieldsTree ItemsTree LinksTree LocalsTree NamedTree NamedListTree NodesTree → NamedTree
+abbrev pub named_step : Named-F FormTree ItemTree LinkTree LocalTree NodeTree AttributeTree AttributesTree BranchTree
+    BranchesTree ExpTree ExpsTree FieldTree FieldsTree ItemsTree LinksTree LocalsTree NamedTree NamedListTree
+    NodesTree
+    → NamedTree
 named_step x = named x.name (maybe_con x.con) x.exp
 
-abbrev pub named_list_step : NamedList-F FormTree ItemTree LinkTree LocalTree NodeTree AttributeTree AttributesTree BranchTree BranchesTree ExpTree ExpsTree FieldTree FieldsTree ItemsTree LinksTree LocalsTree NamedTree NamedListTree NodesTree → NamedListTree
+abbrev pub named_list_step : NamedList-F FormTree ItemTree LinkTree LocalTree NodeTree AttributeTree AttributesTree
+    BranchTree BranchesTree ExpTree ExpsTree FieldTree FieldsTree ItemsTree LinksTree LocalsTree NamedTree
+    NamedListTree NodesTree
+    → NamedListTree
 named_list_step x = named_list_from x.items.items
 
-abbrev pub nodes_step : Nodes-F FormTree ItemTree LinkTree LocalTree NodeTree AttributeTree AttributesTree BranchTree BranchesTree ExpTree ExpsTree FieldTree FieldsTree ItemsTree LinksTree LocalsTree NamedTree NamedListTree NodesTree → NodesTree
+abbrev pub nodes_step : Nodes-F FormTree ItemTree LinkTree LocalTree NodeTree AttributeTree AttributesTree BranchTree
+    BranchesTree ExpTree ExpsTree FieldTree FieldsTree ItemsTree LinksTree LocalsTree NamedTree NamedListTree
+    NodesTree
+    → NodesTree
 nodes_step x = nodes_from x.items.items
 
 abbrev pub form_tree : Form → FormTree
-form_tree = fold-Form FormTree ItemTree LinkTree LocalTree NodeTree AttributeTree AttributesTree BranchTree BranchesTree ExpTree ExpsTree FieldTree FieldsTree ItemsTree LinksTree LocalsTree NamedTree NamedListTree NodesTree
-    form_step item_step link_step local_step node_step attribute_step attributes_step branch_step branches_step exp_step exps_step field_step fields_step items_step links_step locals_step named_step named_list_step nodes_step
+form_tree = fold-Form FormTree ItemTree LinkTree LocalTree NodeTree AttributeTree AttributesTree BranchTree
+    BranchesTree ExpTree ExpsTree FieldTree FieldsTree ItemsTree LinksTree LocalsTree NamedTree NamedListTree
+    NodesTree form_step item_step link_step local_step node_step attribute_step attributes_step branch_step
+    branches_step exp_step exps_step field_step fields_step items_step links_step locals_step named_step
+    named_list_step nodes_step
 
 abbrev pub item_tree : Item → ItemTree
-item_tree = fold-Item FormTree ItemTree LinkTree LocalTree NodeTree AttributeTree AttributesTree BranchTree BranchesTree ExpTree ExpsTree FieldTree FieldsTree ItemsTree LinksTree LocalsTree NamedTree NamedListTree NodesTree
-    form_step item_step link_step local_step node_step attribute_step attributes_step branch_step branches_step exp_step exps_step field_step fields_step items_step links_step locals_step named_step named_list_step nodes_step
+item_tree = fold-Item FormTree ItemTree LinkTree LocalTree NodeTree AttributeTree AttributesTree BranchTree
+    BranchesTree ExpTree ExpsTree FieldTree FieldsTree ItemsTree LinksTree LocalsTree NamedTree NamedListTree
+    NodesTree form_step item_step link_step local_step node_step attribute_step attributes_step branch_step
+    branches_step exp_step exps_step field_step fields_step items_step links_step locals_step named_step
+    named_list_step nodes_step
 
 abbrev pub link_tree : Link → LinkTree
-link_tree = fold-Link FormTree ItemTree LinkTree LocalTree NodeTree AttributeTree AttributesTree BranchTree BranchesTree ExpTree ExpsTree FieldTree FieldsTree ItemsTree LinksTree LocalsTree NamedTree NamedListTree NodesTree
-    form_step item_step link_step local_step node_step attribute_step attributes_step branch_step branches_step exp_step exps_step field_step fields_step items_step links_step locals_step named_step named_list_step nodes_step
+link_tree = fold-Link FormTree ItemTree LinkTree LocalTree NodeTree AttributeTree AttributesTree BranchTree
+    BranchesTree ExpTree ExpsTree FieldTree FieldsTree ItemsTree LinksTree LocalsTree NamedTree NamedListTree
+    NodesTree form_step item_step link_step local_step node_step attribute_step attributes_step branch_step
+    branches_step exp_step exps_step field_step fields_step items_step links_step locals_step named_step
+    named_list_step nodes_step
 
 abbrev pub local_tree : Local → LocalTree
-local_tree = fold-Local FormTree ItemTree LinkTree LocalTree NodeTree AttributeTree AttributesTree BranchTree BranchesTree ExpTree ExpsTree FieldTree FieldsTree ItemsTree LinksTree LocalsTree NamedTree NamedListTree NodesTree
-    form_step item_step link_step local_step node_step attribute_step attributes_step branch_step branches_step exp_step exps_step field_step fields_step items_step links_step locals_step named_step named_list_step nodes_step
+local_tree = fold-Local FormTree ItemTree LinkTree LocalTree NodeTree AttributeTree AttributesTree BranchTree
+    BranchesTree ExpTree ExpsTree FieldTree FieldsTree ItemsTree LinksTree LocalsTree NamedTree NamedListTree
+    NodesTree form_step item_step link_step local_step node_step attribute_step attributes_step branch_step
+    branches_step exp_step exps_step field_step fields_step items_step links_step locals_step named_step
+    named_list_step nodes_step
 
 abbrev pub node_tree : Node → NodeTree
-node_tree = fold-Node FormTree ItemTree LinkTree LocalTree NodeTree AttributeTree AttributesTree BranchTree BranchesTree ExpTree ExpsTree FieldTree FieldsTree ItemsTree LinksTree LocalsTree NamedTree NamedListTree NodesTree
-    form_step item_step link_step local_step node_step attribute_step attributes_step branch_step branches_step exp_step exps_step field_step fields_step items_step links_step locals_step named_step named_list_step nodes_step
+node_tree = fold-Node FormTree ItemTree LinkTree LocalTree NodeTree AttributeTree AttributesTree BranchTree
+    BranchesTree ExpTree ExpsTree FieldTree FieldsTree ItemsTree LinksTree LocalsTree NamedTree NamedListTree
+    NodesTree form_step item_step link_step local_step node_step attribute_step attributes_step branch_step
+    branches_step exp_step exps_step field_step fields_step items_step links_step locals_step named_step
+    named_list_step nodes_step
 
 abbrev pub attribute_tree : Attribute → AttributeTree
-attribute_tree = fold-Attribute FormTree ItemTree LinkTree LocalTree NodeTree AttributeTree AttributesTree BranchTree BranchesTree ExpTree ExpsTree FieldTree FieldsTree ItemsTree LinksTree LocalsTree NamedTree NamedListTree NodesTree
-    form_step item_step link_step local_step node_step attribute_step attributes_step branch_step branches_step exp_step exps_step field_step fields_step items_step links_step locals_step named_step named_list_step nodes_step
+attribute_tree = fold-Attribute FormTree ItemTree LinkTree LocalTree NodeTree AttributeTree AttributesTree BranchTree
+    BranchesTree ExpTree ExpsTree FieldTree FieldsTree ItemsTree LinksTree LocalsTree NamedTree NamedListTree
+    NodesTree form_step item_step link_step local_step node_step attribute_step attributes_step branch_step
+    branches_step exp_step exps_step field_step fields_step items_step links_step locals_step named_step
+    named_list_step nodes_step
 
 abbrev pub attributes_tree : Attributes → AttributesTree
-attributes_tree = fold-Attributes FormTree ItemTree LinkTree LocalTree NodeTree AttributeTree AttributesTree BranchTree BranchesTree ExpTree ExpsTree FieldTree FieldsTree ItemsTree LinksTree LocalsTree NamedTree NamedListTree NodesTree
-    form_step item_step link_step local_step node_step attribute_step attributes_step branch_step branches_step exp_step exps_step field_step fields_step items_step links_step locals_step named_step named_list_step nodes_step
+attributes_tree = fold-Attributes FormTree ItemTree LinkTree LocalTree NodeTree AttributeTree AttributesTree
+    BranchTree BranchesTree ExpTree ExpsTree FieldTree FieldsTree ItemsTree LinksTree LocalsTree NamedTree
+    NamedListTree NodesTree form_step item_step link_step local_step node_step attribute_step attributes_step
+    branch_step branches_step exp_step exps_step field_step fields_step items_step links_step locals_step named_step
+    named_list_step nodes_step
 
 abbrev pub branch_tree : Branch → BranchTree
-branch_tree = fold-Branch FormTree ItemTree LinkTree LocalTree NodeTree AttributeTree AttributesTree BranchTree BranchesTree ExpTree ExpsTree FieldTree FieldsTree ItemsTree LinksTree LocalsTree NamedTree NamedListTree NodesTree
-    form_step item_step link_step local_step node_step attribute_step attributes_step branch_step branches_step exp_step exps_step field_step fields_step items_step links_step locals_step named_step named_list_step nodes_step
+branch_tree = fold-Branch FormTree ItemTree LinkTree LocalTree NodeTree AttributeTree AttributesTree BranchTree
+    BranchesTree ExpTree ExpsTree FieldTree FieldsTree ItemsTree LinksTree LocalsTree NamedTree NamedListTree
+    NodesTree form_step item_step link_step local_step node_step attribute_step attributes_step branch_step
+    branches_step exp_step exps_step field_step fields_step items_step links_step locals_step named_step
+    named_list_step nodes_step
 
 abbrev pub branches_tree : Branches → BranchesTree
-branches_tree = fold-Branches FormTree ItemTree LinkTree LocalTree NodeTree AttributeTree AttributesTree BranchTree BranchesTree ExpTree ExpsTree FieldTree FieldsTree ItemsTree LinksTree LocalsTree NamedTree NamedListTree NodesTree
-    form_step item_step link_step local_step node_step attribute_step attributes_step branch_step branches_step exp_step exps_step field_step fields_step items_step links_step locals_step named_step named_list_step nodes_step
+branches_tree = fold-Branches FormTree ItemTree LinkTree LocalTree NodeTree AttributeTree AttributesTree BranchTree
+    BranchesTree ExpTree ExpsTree FieldTree FieldsTree ItemsTree LinksTree LocalsTree NamedTree NamedListTree
+    NodesTree form_step item_step link_step local_step node_step attribute_step attributes_step branch_step
+    branches_step exp_step exps_step field_step fields_step items_step links_step locals_step named_step
+    named_list_step nodes_step
 
 abbrev pub exp_tree : Exp → ExpTree
-exp_tree = fold-Exp FormTree ItemTree LinkTree LocalTree NodeTree AttributeTree AttributesTree BranchTree BranchesTree ExpTree ExpsTree FieldTree FieldsTree ItemsTree LinksTree LocalsTree NamedTree NamedListTree NodesTree
-    form_step item_step link_step local_step node_step attribute_step attributes_step branch_step branches_step exp_step exps_step field_step fields_step items_step links_step locals_step named_step named_list_step nodes_step
+exp_tree = fold-Exp FormTree ItemTree LinkTree LocalTree NodeTree AttributeTree AttributesTree BranchTree BranchesTree
+    ExpTree ExpsTree FieldTree FieldsTree ItemsTree LinksTree LocalsTree NamedTree NamedListTree NodesTree form_step
+    item_step link_step local_step node_step attribute_step attributes_step branch_step branches_step exp_step
+    exps_step field_step fields_step items_step links_step locals_step named_step named_list_step nodes_step
 
 abbrev pub exps_tree : Exps → ExpsTree
-exps_tree = fold-Exps FormTree ItemTree LinkTree LocalTree NodeTree AttributeTree AttributesTree BranchTree BranchesTree ExpTree ExpsTree FieldTree FieldsTree ItemsTree LinksTree LocalsTree NamedTree NamedListTree NodesTree
-    form_step item_step link_step local_step node_step attribute_step attributes_step branch_step branches_step exp_step exps_step field_step fields_step items_step links_step locals_step named_step named_list_step nodes_step
+exps_tree = fold-Exps FormTree ItemTree LinkTree LocalTree NodeTree AttributeTree AttributesTree BranchTree
+    BranchesTree ExpTree ExpsTree FieldTree FieldsTree ItemsTree LinksTree LocalsTree NamedTree NamedListTree
+    NodesTree form_step item_step link_step local_step node_step attribute_step attributes_step branch_step
+    branches_step exp_step exps_step field_step fields_step items_step links_step locals_step named_step
+    named_list_step nodes_step
 
 abbrev pub field_tree : Field → FieldTree
-field_tree = fold-Field FormTree ItemTree LinkTree LocalTree NodeTree AttributeTree AttributesTree BranchTree BranchesTree ExpTree ExpsTree FieldTree FieldsTree ItemsTree LinksTree LocalsTree NamedTree NamedListTree NodesTree
-    form_step item_step link_step local_step node_step attribute_step attributes_step branch_step branches_step exp_step exps_step field_step fields_step items_step links_step locals_step named_step named_list_step nodes_step
+field_tree = fold-Field FormTree ItemTree LinkTree LocalTree NodeTree AttributeTree AttributesTree BranchTree
+    BranchesTree ExpTree ExpsTree FieldTree FieldsTree ItemsTree LinksTree LocalsTree NamedTree NamedListTree
+    NodesTree form_step item_step link_step local_step node_step attribute_step attributes_step branch_step
+    branches_step exp_step exps_step field_step fields_step items_step links_step locals_step named_step
+    named_list_step nodes_step
 
 abbrev pub fields_tree : Fields → FieldsTree
-fields_tree = fold-Fields FormTree ItemTree LinkTree LocalTree NodeTree AttributeTree AttributesTree BranchTree BranchesTree ExpTree ExpsTree FieldTree FieldsTree ItemsTree LinksTree LocalsTree NamedTree NamedListTree NodesTree
-    form_step item_step link_step local_step node_step attribute_step attributes_step branch_step branches_step exp_step exps_step field_step fields_step items_step links_step locals_step named_step named_list_step nodes_step
+fields_tree = fold-Fields FormTree ItemTree LinkTree LocalTree NodeTree AttributeTree AttributesTree BranchTree
+    BranchesTree ExpTree ExpsTree FieldTree FieldsTree ItemsTree LinksTree LocalsTree NamedTree NamedListTree
+    NodesTree form_step item_step link_step local_step node_step attribute_step attributes_step branch_step
+    branches_step exp_step exps_step field_step fields_step items_step links_step locals_step named_step
+    named_list_step nodes_step
 
 abbrev pub items_tree : Items → ItemsTree
-items_tree = fold-Items FormTree ItemTree LinkTree LocalTree NodeTree AttributeTree AttributesTree BranchTree BranchesTree ExpTree ExpsTree FieldTree FieldsTree ItemsTree LinksTree LocalsTree NamedTree NamedListTree NodesTree
-    form_step item_step link_step local_step node_step attribute_step attributes_step branch_step branches_step exp_step exps_step field_step fields_step items_step links_step locals_step named_step named_list_step nodes_step
+items_tree = fold-Items FormTree ItemTree LinkTree LocalTree NodeTree AttributeTree AttributesTree BranchTree
+    BranchesTree ExpTree ExpsTree FieldTree FieldsTree ItemsTree LinksTree LocalsTree NamedTree NamedListTree
+    NodesTree form_step item_step link_step local_step node_step attribute_step attributes_step branch_step
+    branches_step exp_step exps_step field_step fields_step items_step links_step locals_step named_step
+    named_list_step nodes_step
 
 abbrev pub links_tree : Links → LinksTree
-links_tree = fold-Links FormTree ItemTree LinkTree LocalTree NodeTree AttributeTree AttributesTree BranchTree BranchesTree ExpTree ExpsTree FieldTree FieldsTree ItemsTree LinksTree LocalsTree NamedTree NamedListTree NodesTree
-    form_step item_step link_step local_step node_step attribute_step attributes_step branch_step branches_step exp_step exps_step field_step fields_step items_step links_step locals_step named_step named_list_step nodes_step
+links_tree = fold-Links FormTree ItemTree LinkTree LocalTree NodeTree AttributeTree AttributesTree BranchTree
+    BranchesTree ExpTree ExpsTree FieldTree FieldsTree ItemsTree LinksTree LocalsTree NamedTree NamedListTree
+    NodesTree form_step item_step link_step local_step node_step attribute_step attributes_step branch_step
+    branches_step exp_step exps_step field_step fields_step items_step links_step locals_step named_step
+    named_list_step nodes_step
 
 abbrev pub locals_tree : Locals → LocalsTree
-locals_tree = fold-Locals FormTree ItemTree LinkTree LocalTree NodeTree AttributeTree AttributesTree BranchTree BranchesTree ExpTree ExpsTree FieldTree FieldsTree ItemsTree LinksTree LocalsTree NamedTree NamedListTree NodesTree
-    form_step item_step link_step local_step node_step attribute_step attributes_step branch_step branches_step exp_step exps_step field_step fields_step items_step links_step locals_step named_step named_list_step nodes_step
+locals_tree = fold-Locals FormTree ItemTree LinkTree LocalTree NodeTree AttributeTree AttributesTree BranchTree
+    BranchesTree ExpTree ExpsTree FieldTree FieldsTree ItemsTree LinksTree LocalsTree NamedTree NamedListTree
+    NodesTree form_step item_step link_step local_step node_step attribute_step attributes_step branch_step
+    branches_step exp_step exps_step field_step fields_step items_step links_step locals_step named_step
+    named_list_step nodes_step
 
 abbrev pub named_tree : Named → NamedTree
-named_tree = fold-Named FormTree ItemTree LinkTree LocalTree NodeTree AttributeTree AttributesTree BranchTree BranchesTree ExpTree ExpsTree FieldTree FieldsTree ItemsTree LinksTree LocalsTree NamedTree NamedListTree NodesTree
-    form_step item_step link_step local_step node_step attribute_step attributes_step branch_step branches_step exp_step exps_step field_step fields_step items_step links_step locals_step named_step named_list_step nodes_step
+named_tree = fold-Named FormTree ItemTree LinkTree LocalTree NodeTree AttributeTree AttributesTree BranchTree
+    BranchesTree ExpTree ExpsTree FieldTree FieldsTree ItemsTree LinksTree LocalsTree NamedTree NamedListTree
+    NodesTree form_step item_step link_step local_step node_step attribute_step attributes_step branch_step
+    branches_step exp_step exps_step field_step fields_step items_step links_step locals_step named_step
+    named_list_step nodes_step
 
 abbrev pub named_list_tree : NamedList → NamedListTree
-named_list_tree = fold-NamedList FormTree ItemTree LinkTree LocalTree NodeTree AttributeTree AttributesTree BranchTree BranchesTree ExpTree ExpsTree FieldTree FieldsTree ItemsTree LinksTree LocalsTree NamedTree NamedListTree NodesTree
-    form_step item_step link_step local_step node_step attribute_step attributes_step branch_step branches_step exp_step exps_step field_step fields_step items_step links_step locals_step named_step named_list_step nodes_step
+named_list_tree = fold-NamedList FormTree ItemTree LinkTree LocalTree NodeTree AttributeTree AttributesTree BranchTree
+    BranchesTree ExpTree ExpsTree FieldTree FieldsTree ItemsTree LinksTree LocalsTree NamedTree NamedListTree
+    NodesTree form_step item_step link_step local_step node_step attribute_step attributes_step branch_step
+    branches_step exp_step exps_step field_step fields_step items_step links_step locals_step named_step
+    named_list_step nodes_step
 
 abbrev pub nodes_tree : Nodes → NodesTree
-nodes_tree = fold-Nodes FormTree ItemTree LinkTree LocalTree NodeTree AttributeTree AttributesTree BranchTree BranchesTree ExpTree ExpsTree FieldTree FieldsTree ItemsTree LinksTree LocalsTree NamedTree NamedListTree NodesTree
-    form_step item_step link_step local_step node_step attribute_step attributes_step branch_step branches_step exp_step exps_step field_step fields_step items_step links_step locals_step named_step named_list_step nodes_step
+nodes_tree = fold-Nodes FormTree ItemTree LinkTree LocalTree NodeTree AttributeTree AttributesTree BranchTree
+    BranchesTree ExpTree ExpsTree FieldTree FieldsTree ItemsTree LinksTree LocalsTree NamedTree NamedListTree
+    NodesTree form_step item_step link_step local_step node_step attribute_step attributes_step branch_step
+    branches_step exp_step exps_step field_step fields_step items_step links_step locals_step named_step
+    named_list_step nodes_step

@@ -140,7 +140,8 @@ maybe_count None = no_count
 maybe_count (Some c) = a_count (count_tree c)
 
 abbrev pub sql_tree : Sql → SqlTree
-sql_tree (sql.Select x0 x1 x2 x3 x4 x5) = sql_select (selection_tree x0) (sources_tree x1) (maybe_query x2) (orders_tree x3) (maybe_count x4) (maybe_count x5)
+sql_tree (sql.Select x0 x1 x2 x3 x4 x5) =
+    sql_select (selection_tree x0) (sources_tree x1) (maybe_query x2) (orders_tree x3) (maybe_count x4) (maybe_count x5)
 sql_tree (sql.Insert x0 x1 x2) = sql_insert (table_ref_tree x0) x1 (queries_tree x2)
 sql_tree (sql.Update x0 x1 x2) = sql_update (table_ref_tree x0) (assignments_tree x1) (query_tree x2)
 sql_tree (sql.Delete x0 x1) = sql_delete (table_ref_tree x0) (query_tree x1)

@@ -131,7 +131,8 @@ impl Project {
 
     /// Adds a function that may be called without a check.
     fn add_safe_get(&mut self, alloc: Global, owner: &str, name: &str) -> Result<(), AllocError>
-        ensures { OnOk result (Some (said_by self.new) ≡ with_directive (said_by self.old) (a_safe_get owner.now name.now)) }
+        ensures { OnOk result (Some (said_by self.new)
+            ≡ with_directive (said_by self.old) (a_safe_get owner.now name.now)) }
     {
         let owner = Text::of(alloc, owner)?;
         let name = Text::of(alloc, name)?;
@@ -151,7 +152,8 @@ impl Project {
 
     /// Adds an effect, where its module stands before it. The answer is whether it does.
     fn add_effect(&mut self, alloc: Global, owner: &str, name: &str) -> Result<bool, AllocError>
-        ensures { IfOk result (λ taken. told taken (said_by self.new) ≡ with_directive (said_by self.old) (an_effect owner.now name.now)) }
+        ensures { IfOk result (λ taken. told taken (said_by self.new)
+            ≡ with_directive (said_by self.old) (an_effect owner.now name.now)) }
     {
         if !is_among(owner.as_bytes(), self.foreign.as_slice()) {
             return Ok(false);
@@ -170,7 +172,8 @@ impl Project {
         alloc: Global,
         directive: Directive<'_>,
     ) -> Result<bool, AllocError>
-        ensures { IfOk result (λ taken. told taken (said_by self.new) ≡ with_directive (said_by self.old) (directive_of directive.entry)) }
+        ensures { IfOk result (λ taken. told taken (said_by self.new)
+            ≡ with_directive (said_by self.old) (directive_of directive.entry)) }
     {
         match directive {
             Directive::Rule { allow, pattern } => {

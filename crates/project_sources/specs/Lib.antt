@@ -1,1 +1,2 @@
+-- The lines that tell why a project's sources aren't read.
 pub mod Lines

@@ -1,3 +1,6 @@
+-- How long the text of a page may be.
 pub mod Lengths
+-- Which page a program shows.
 pub mod Shown
+-- How the page of a program is found.
 pub mod Found

@@ -1,1 +1,2 @@
+-- What contracts see of the tokens of a text.
 pub mod TokenList

@@ -1,1 +1,2 @@
+-- The faults that values of this crate are.
 pub mod View

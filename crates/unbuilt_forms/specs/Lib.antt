@@ -1,1 +1,2 @@
+-- Which tokens show a form that isn't built yet, and the first of them.
 pub mod Unbuilt

@@ -103,7 +103,8 @@ fn inside(alloc: Global, found: &Found, depth: u32, number: u32) -> Result<Con, 
     requires outside { depth ≤ number }
     ensures { IfOk result
         (λ c. con_tree c
-        ≡ filled_answer (answer_of (found_tree found.now) (number - depth)) (count_of (found_tree found.now) + depth) number) }
+        ≡ filled_answer (answer_of (found_tree found.now) (number - depth))
+        (count_of (found_tree found.now) + depth) number) }
 {
     match found.answer(number - depth) {
         None => Ok(Con::Var(number)),

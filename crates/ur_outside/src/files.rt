@@ -50,7 +50,8 @@ pub trait Files {
         ensures few { IfOk result (λ held. length held.bytes ≤ most) }
         ensures front { IfOk result (λ held. IfSome (told self.old)
             (λ files. IsFront (file_at files path.now) most held.bytes held.more)) }
-        ensures missing { IsErrOf result FileFault.Missing → IfSome (told self.old) (λ files. file_at files path.now ≡ None) }
+        ensures missing { IsErrOf result FileFault.Missing
+            → IfSome (told self.old) (λ files. file_at files path.now ≡ None) }
         ensures kept { told self.new ≡ told self.old }
         ensures later { faults self.old ≤ faults self.new }
         ensures failed { IsErrOf result FileFault.Failed → Rose (faults self.old) (faults self.new) };
@@ -59,7 +60,8 @@ pub trait Files {
     fn list(&mut self, alloc: Global, dir: &str) -> Result<Texts, FileFault>
         ensures names { IfOk result (λ names. IfSome (told self.old) (λ files. names ≡ names_in files dir.now)) }
         ensures there { IfOk result (λ _. IfSome (told self.old) (λ files. has_folder files dir.now ≡ true)) }
-        ensures missing { IsErrOf result FileFault.Missing → IfSome (told self.old) (λ files. has_folder files dir.now ≡ false) }
+        ensures missing { IsErrOf result FileFault.Missing
+            → IfSome (told self.old) (λ files. has_folder files dir.now ≡ false) }
         ensures kept { told self.new ≡ told self.old }
         ensures later { faults self.old ≤ faults self.new }
         ensures failed { IsErrOf result FileFault.Failed → Rose (faults self.old) (faults self.new) };

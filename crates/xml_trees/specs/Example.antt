@@ -10,11 +10,13 @@ use Rattle.xml_trees.specs.Grammar.{IsPage}
 abbrev pub example : Trees
 example =
     let text = codes "<b>&\"" in
-    Element Body [] (Element P (Title text ∷ []) (Words text Nothing) (Element Br [] (Words text Nothing) Nothing)) Nothing
+    Element Body [] (Element P (Title text ∷ []) (Words text Nothing)
+        (Element Br [] (Words text Nothing) Nothing)) Nothing
 
 -- its text
 abbrev pub example_text : List ℕ
-example_text = codes "<!DOCTYPE html><html><body><p title=\"&lt;b&gt;&amp;&quot;\">&lt;b&gt;&amp;\"</p><br></body></html>"
+example_text =
+    codes "<!DOCTYPE html><html><body><p title=\"&lt;b&gt;&amp;&quot;\">&lt;b&gt;&amp;\"</p><br></body></html>"
 
 -- the text is that of the page
 abbrev pub ExampleIsShown : Type 0

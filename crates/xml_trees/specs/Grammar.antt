@@ -31,7 +31,8 @@ pub data IsValue : List ℕ → List ℕ → Type 0 where
 -- Attributes: for each one a space, its name, and its text in quotes behind an equals sign.
 pub data AreAttributes : List ℕ → List Attribute → Type 0 where
   NoAttributes : AreAttributes [] []
-  MoreAttributes : (value behind : List ℕ) (a : Attribute) (more : List Attribute) → IsName a.name → IsValue value a.text → AreAttributes behind more
+  MoreAttributes : (value behind : List ℕ) (a : Attribute) (more : List Attribute)
+      → IsName a.name → IsValue value a.text → AreAttributes behind more
       → AreAttributes (codes " " ++ (a.name ++ (codes "=\"" ++ (value ++ (codes "\"" ++ behind))))) (a ∷ more)
 
 -- Trees one after another.
@@ -39,21 +40,26 @@ pub data IsMarkup : List ℕ → Markup → Type 0 where
   -- nothing
   NoMarkup : IsMarkup [] Empty
   -- a text that isn't empty, and what follows it, which is no text
-  Text : (front behind text : List ℕ) (rest : Markup) → text ≢ [] → BeginsNoText rest → IsText front text → IsMarkup behind rest
+  Text : (front behind text : List ℕ) (rest : Markup)
+      → text ≢ [] → BeginsNoText rest → IsText front text → IsMarkup behind rest
       → IsMarkup (front ++ behind) (Characters text rest)
   -- a tag that holds nothing and isn't closed
   Void : (name front behind : List ℕ) (attributes : List Attribute) (rest : Markup) → IsName name → is_void name ≡ true
       → AreAttributes front attributes → IsMarkup behind rest
       → IsMarkup (codes "<" ++ (name ++ (front ++ (codes ">" ++ behind)))) (Tagged name attributes Empty rest)
   -- a tag, what it holds, and its closing tag
-  Closed : (name front content behind : List ℕ) (attributes : List Attribute) (inside rest : Markup) → IsName name → is_void name ≡ false
+  Closed : (name front content behind : List ℕ) (attributes : List Attribute) (inside rest : Markup)
+      → IsName name → is_void name ≡ false
       → AreAttributes front attributes → IsMarkup content inside → IsMarkup behind rest
-      → IsMarkup (codes "<" ++ (name ++ (front ++ (codes ">" ++ (content ++ (codes "</" ++ (name ++ (codes ">" ++ behind)))))))) (Tagged name attributes inside rest)
+      → IsMarkup
+        (codes "<" ++ (name ++ (front ++ (codes ">" ++ (content ++ (codes "</" ++ (name ++ (codes ">" ++ behind))))))))
+        (Tagged name attributes inside rest)
 
 -- A page: the doctype, and the trees within `html`.
 abbrev pub IsPage : List ℕ → Markup → Type 0
 IsPage bytes trees =
-    (content : List ℕ) × (bytes ≡ codes "<!DOCTYPE html><html>" ++ (content ++ codes "</html>")) × IsMarkup content trees
+    (content : List ℕ) × (bytes ≡ codes "<!DOCTYPE html><html>" ++ (content ++ codes "</html>"))
+    × IsMarkup content trees
 
 -- No two trees have one text.
 abbrev pub PagesAreUnique : Type 0

@@ -36,7 +36,8 @@ same_bytes (c ∷ cs) (d ∷ ds) = (c == d) && same_bytes cs ds
 -- a tag of this name has neither content nor a closing tag: a void element of HTML
 abbrev pub is_void : List ℕ → Bool
 is_void name =
-    same_bytes name (codes "br") || same_bytes name (codes "hr") || same_bytes name (codes "img") || same_bytes name (codes "input")
+    same_bytes name (codes "br") || same_bytes name (codes "hr") || same_bytes name (codes "img")
+    || same_bytes name (codes "input")
 
 -- the first of these trees is no text
 abbrev pub BeginsNoText : Markup → Type 0

@@ -27,13 +27,15 @@ attribute_bytes a = codes " " ++ (a.name ++ (codes "=\"" ++ (flat_map quote a.te
 
 -- the bytes of a tag
 abbrev pub begin_bytes : Tag → List Attr → List ℕ
-begin_bytes tag attrs = codes "<" ++ (name_bytes (name_of tag) ++ (flat_map attribute_bytes (written_attributes tag attrs) ++ codes ">"))
+begin_bytes tag attrs =
+    codes "<" ++ (name_bytes (name_of tag) ++ (flat_map attribute_bytes (written_attributes tag attrs) ++ codes ">"))
 
 -- the bytes of a closing tag
 abbrev pub end_bytes : Name → List ℕ
 end_bytes name = codes "</" ++ (name_bytes name ++ codes ">")
 
--- The bytes of a piece. `hidden` is the number of unfinished elements from the outermost void one on, within which nothing is written.
+-- The bytes of a piece. `hidden` is the number of unfinished elements from the outermost void one on, within which
+-- nothing is written.
 abbrev pub piece_bytes : ℕ → Piece → List ℕ
 piece_bytes hidden (Begin tag attrs) = if hidden == 0 then begin_bytes tag attrs else []
 piece_bytes hidden (Said text) = if hidden == 0 then flat_map escape text else []
@@ -41,7 +43,8 @@ piece_bytes hidden (End name) = if hidden == 0 then end_bytes name else []
 
 -- `hidden` after a piece
 abbrev pub hidden_after : ℕ → Piece → ℕ
-hidden_after hidden (Begin tag attrs) = if hidden == 0 then (if is_void_name (name_of tag) then 1 else 0) else hidden + 1
+hidden_after hidden (Begin tag attrs) =
+    if hidden == 0 then (if is_void_name (name_of tag) then 1 else 0) else hidden + 1
 hidden_after hidden (Said text) = hidden
 hidden_after hidden (End name) = hidden - 1
 
@@ -56,4 +59,6 @@ page_bytes pieces = codes "<!DOCTYPE html><html>" ++ (pieces_bytes 0 pieces ++ c
 
 -- The bytes of the pieces of a page without unfinished elements are the text of its trees.
 abbrev pub PiecesArePages : Type 0
-PiecesArePages = (pieces : List Piece) → AreNested (Whole Nothing) pieces → IsWhole (built pieces) → IsPage (page_bytes pieces) (written (trees_of (built pieces)))
+PiecesArePages =
+    (pieces : List Piece) → AreNested (Whole Nothing) pieces → IsWhole (built pieces)
+    → IsPage (page_bytes pieces) (written (trees_of (built pieces)))

@@ -19,7 +19,8 @@ trees_and Nothing more = more
 trees_and (Words text rest) more = Words text (trees_and rest more)
 trees_and (Element tag attrs inside rest) more = Element tag attrs inside (trees_and rest more)
 
--- a page as far as it is built: whole trees, or an element that isn't ended, in what was built before it, with the trees that it holds so far
+-- a page as far as it is built: whole trees, or an element that isn't ended, in what was built before it, with the
+-- trees that it holds so far
 pub data Built : Type 0 where
   Whole : Trees → Built
   Within : Built → Tag → List Attr → Trees → Built

@@ -1,4 +1,5 @@
--- How trees are written: the tags and attributes that stand for them, with texts joined, and empty ones and what void tags hold left out.
+-- How trees are written: the tags and attributes that stand for them, with texts joined, and empty ones and what void
+-- tags hold left out.
 use Rattle.std.specs.Prelude.{ℕ, List, [], ◌∷◌, ◌++◌, codes, map, if◌then◌else◌}
 use Rattle.std.specs.Fmt.{signed_decimal}
 use Rattle.xml_trees.specs.declared.tag.Tag.{Tag}
@@ -52,4 +53,5 @@ abbrev pub written : Trees → Markup
 written Nothing = Empty
 written (Words text rest) = with_text text (written rest)
 written (Element tag attrs inside rest) =
-    Tagged (name_bytes (name_of tag)) (written_attributes tag attrs) (if is_void_name (name_of tag) then Empty else written inside) (written rest)
+    Tagged (name_bytes (name_of tag)) (written_attributes tag attrs)
+        (if is_void_name (name_of tag) then Empty else written inside) (written rest)
