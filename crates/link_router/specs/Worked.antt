@@ -22,7 +22,7 @@ e_acute = 195 ∷ 169 ∷ []
 abbrev pub one_two : Wr
 one_two =
     tagged (codes "Cons") (rec_of (wire (int (pos 1))
-        (wire (tagged (codes "Cons") (rec_of (wire (int (pos 2)) (wire (bare (codes "Nil")) no_wires)))) no_wires)))
+    (wire (tagged (codes "Cons") (rec_of (wire (int (pos 2)) (wire (bare (codes "Nil")) no_wires)))) no_wires)))
 
 abbrev pub WorkedLinks : Type 0
 WorkedLinks =
@@ -44,7 +44,7 @@ WorkedPaths =
 abbrev pub four_fields : Sh
 four_fields =
     a_record (part (codes "A") a_text (part (codes "B") a_text
-        (part (codes "C") a_truth (part (codes "D") a_truth no_parts))))
+    (part (codes "C") a_truth (part (codes "D") a_truth no_parts))))
 
 -- two texts
 abbrev pub two_fields : Sh
@@ -55,8 +55,8 @@ two_fields = a_record (part (codes "A") a_text (part (codes "B") a_text no_parts
 abbrev pub WorkedForms : Type 0
 WorkedForms =
     ReadsForm four_fields (codes "B=x+y%21&A=1&A=2&C&other=3")
-        (filled (rec_of (wire (words (codes "1")) (wire (words (codes "x y!"))
-        (wire (bare (codes "True")) (wire (bare (codes "False")) no_wires))))))
+    (filled (rec_of (wire (words (codes "1")) (wire (words (codes "x y!"))
+    (wire (bare (codes "True")) (wire (bare (codes "False")) no_wires))))))
     × ReadsForm two_fields (codes "A&B=%C3%A9") (filled (rec_of (wire (words []) (wire (words e_acute) no_wires))))
     × ReadsForm two_fields (codes "B=%FF") (lacks (codes "A"))
     × ReadsForm two_fields (codes "B=%FF&A=1") (spoils (codes "B"))

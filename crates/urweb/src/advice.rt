@@ -12,8 +12,7 @@ const LONGEST_FILE: usize = 4194304;
 pub(crate) fn advice(status: u8) -> &'static str {
     match status {
         2 =>
-            "urweb: these words are no command: urweb --help shows what is \
-             (page reads its input: urweb page < hello.ur)\n",
+            "urweb: these words are no command: urweb --help shows what is (page reads its input: urweb page < hello.ur)\n",
         3 => "urweb: the input, or a file of the project, could not be read\n",
         4 => "urweb: the output could not be written, or not to its end\n",
         5 => "urweb: there was not enough memory\n",

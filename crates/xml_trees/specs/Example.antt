@@ -11,7 +11,7 @@ abbrev pub example : Trees
 example =
     let text = codes "<b>&\"" in
     Element Body [] (Element P (Title text ∷ []) (Words text Nothing)
-        (Element Br [] (Words text Nothing) Nothing)) Nothing
+    (Element Br [] (Words text Nothing) Nothing)) Nothing
 
 -- its text
 abbrev pub example_text : List ℕ

@@ -52,8 +52,8 @@ pub data IsMarkup : List ℕ → Markup → Type 0 where
       → IsName name → is_void name ≡ false
       → AreAttributes front attributes → IsMarkup content inside → IsMarkup behind rest
       → IsMarkup
-        (codes "<" ++ (name ++ (front ++ (codes ">" ++ (content ++ (codes "</" ++ (name ++ (codes ">" ++ behind))))))))
-        (Tagged name attributes inside rest)
+      (codes "<" ++ (name ++ (front ++ (codes ">" ++ (content ++ (codes "</" ++ (name ++ (codes ">" ++ behind))))))))
+      (Tagged name attributes inside rest)
 
 -- A page: the doctype, and the trees within `html`.
 abbrev pub IsPage : List ℕ → Markup → Type 0

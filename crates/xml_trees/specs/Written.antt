@@ -54,4 +54,4 @@ written Nothing = Empty
 written (Words text rest) = with_text text (written rest)
 written (Element tag attrs inside rest) =
     Tagged (name_bytes (name_of tag)) (written_attributes tag attrs)
-        (if is_void_name (name_of tag) then Empty else written inside) (written rest)
+    (if is_void_name (name_of tag) then Empty else written inside) (written rest)
