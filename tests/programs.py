@@ -7,8 +7,11 @@ is a module between a line `=== NAME` and a line `--- ANSWER`. An answer is
     ~ TEXT      this output, status 0
     ! LINE      this line, status 1
     @ LINE      as `!`, where a place in the line counts from the first byte of the term of a `.shown` line
-A word in brackets behind the name tells the command: `[check]` and `[explicit]` run over a folder with the module as `main.ur`,
-and `\\n` in the answer is then a line feed. The answers are written from the rules of the language, never from the program.
+With a `?` behind the mark, as in `=? TEXT`, memory may run out in its place: nothing is written, and the status is 5.
+A word in brackets behind the name tells the command: `[check]` and `[explicit]` run over a folder with the module as
+`main.ur`, and `\\n` in the answer is then a line feed. In a file `*.whole` `20 TEXT` in backquotes stands for TEXT 20
+times, on one line or on many, and a `?` in TEXT for the number of each, from 0. The answers are written from the rules
+of the language, never from the program.
 """
 import glob
 import os
@@ -28,6 +31,7 @@ class Program:
         self.where, self.text, self.command = where, text, command
         mark, _, rest = answer.partition(" ")
         rest = rest.replace("\\n", "\n")
+        self.may_lack_memory, mark = mark[1:] == "?", mark.removesuffix("?")
         if mark not in ("=", "~", "!", "@"):
             raise ValueError(f"{where}: no answer: {answer}")
         self.status = 0 if mark in "=~" else 1
@@ -55,7 +59,8 @@ class Program:
             ran = subprocess.run(words, input=given, capture_output=True, timeout=60)
         wrote = ran.stdout.decode("utf-8", "replace")
         wrote = re.sub(r"^main\.ur:", "Main.ur:", wrote) if self.command != "page" else wrote
-        if ran.returncode != self.status or wrote != self.wanted:
+        lacks_memory = self.may_lack_memory and ran.returncode == 5 and not wrote
+        if not lacks_memory and (ran.returncode != self.status or wrote != self.wanted):
             return f"status {ran.returncode}, wrote {wrote[:400]!r} in place of {self.wanted[:400]!r}"
         if bool(ran.stderr) != bool(ran.returncode):
             return f"told {ran.stderr[:200]!r}"
@@ -72,6 +77,11 @@ def shown(path):
                 yield Program(f"{path}:{number}", BEFORE + term + BEHIND, answer, offset=len(BEFORE))
 
 
+def spread(text):
+    """The text with each `N TEXT` in it written out."""
+    return re.sub(r"`(\d+) ([^`]*)`", lambda it: "".join(it[2].replace("?", str(i)) for i in range(int(it[1]))), text)
+
+
 def whole(path):
     """The programs of a file of modules."""
     name, command, lines = None, "page", []
@@ -81,8 +91,8 @@ def whole(path):
                 found = re.match(r"=== (.*?)(?: \[(\w+)\])?$", line.rstrip("\n"))
                 name, command, lines = found[1], found[2] or "page", []
             elif line.startswith("--- ") and name:
-                text = "".join(lines)
-                yield Program(f"{path}: {name}", text[:-1] if text.endswith("\n") else text, line[4:].rstrip("\n"), command)
+                text = spread("".join(lines).removesuffix("\n"))
+                yield Program(f"{path}: {name}", text, spread(line[4:].rstrip("\n")), command)
                 name = None
             elif name:
                 lines.append(line)
