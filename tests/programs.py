@@ -7,6 +7,7 @@ is a module between a line `=== NAME` and a line `--- ANSWER`. An answer is
     ~ TEXT      this output, status 0
     ! LINE      this line, status 1
     @ LINE      as `!`, where a place in the line counts from the first byte of the term of a `.shown` line
+    5           nothing, status 5: there is not enough memory, and that is told within 20 seconds
 With a `?` behind the mark, as in `=? TEXT`, memory may run out in its place: nothing is written, and the status is 5.
 A word in brackets behind the name tells the command: `[check]` and `[explicit]` run over a folder with the module as
 `main.ur`, and `\\n` in the answer is then a line feed. In a file `*.whole` `20 TEXT` in backquotes stands for TEXT 20
@@ -32,10 +33,13 @@ class Program:
         mark, _, rest = answer.partition(" ")
         rest = rest.replace("\\n", "\n")
         self.may_lack_memory, mark = mark[1:] == "?", mark.removesuffix("?")
-        if mark not in ("=", "~", "!", "@"):
+        if mark not in ("=", "~", "!", "@", "5"):
             raise ValueError(f"{where}: no answer: {answer}")
-        self.status = 0 if mark in "=~" else 1
-        if mark == "=":
+        self.status = 5 if mark == "5" else 0 if mark in "=~" else 1
+        self.seconds = 20 if mark == "5" else 60
+        if mark == "5":
+            self.wanted = ""
+        elif mark == "=":
             self.wanted = f"<!DOCTYPE html><html><body>{rest}</body></html>"
         elif mark == "~":
             self.wanted = rest
@@ -56,7 +60,7 @@ class Program:
                 with open(f"{folder}/main.ur", "wb") as it:
                     it.write(given)
                 words, given = [*words, folder], b""
-            ran = subprocess.run(words, input=given, capture_output=True, timeout=60)
+            ran = subprocess.run(words, input=given, capture_output=True, timeout=self.seconds)
         wrote = ran.stdout.decode("utf-8", "replace")
         wrote = re.sub(r"^main\.ur:", "Main.ur:", wrote) if self.command != "page" else wrote
         lacks_memory = self.may_lack_memory and ran.returncode == 5 and not wrote

@@ -4,6 +4,7 @@ ghost use Rattle.std.specs.Prelude.{◌≤◌, IfOk};
 
 pub use crate::leaves::KindedCon;
 use crate::leaves::{Here, copy_maybe, folder_over, kinds_differ, labelled, map_over, named};
+use con_nodes::MOST;
 use con_terms::con::{Con, Cons, Pair, Pairs};
 use con_terms::kind::{Kind, Kinds, copy_kind, same_kind};
 use con_terms::symbol::SymTable;
@@ -18,7 +19,8 @@ use type_makers::forms::{
 /// The constructor of the type level that a constructor of a source is, with its kind.
 ///
 /// `wanted` is the kind that is wanted where it stands; kinds that are left out go by it. The places of
-/// faults are in the file with this number.
+/// faults are in the file with this number. What its names stand for may have fewer than 100,000 nodes together: more
+/// count as want of memory.
 pub fn con(
     alloc: Global,
     scope: &Scope,
@@ -28,15 +30,20 @@ pub fn con(
     wanted: Option<&Kind>,
     room: u32,
 ) -> Result<(Con, Kind), ElabFault> {
-    let here = Here { alloc, names, file };
-    let KindedCon { con, kind } = elaborate(&here, scope, c, wanted, room)?;
+    let mut here = Here {
+        alloc,
+        names,
+        file,
+        left: MOST,
+    };
+    let KindedCon { con, kind } = elaborate(&mut here, scope, c, wanted, room)?;
     Ok((con, kind))
 }
 
 /// A constructor, with one level fewer for its parts.
 #[cycle(elaborate)]
 fn elaborate(
-    here: &Here<'_>,
+    here: &mut Here<'_>,
     scope: &Scope,
     c: &plain::Con,
     wanted: Option<&Kind>,
@@ -78,7 +85,7 @@ fn elaborate(
 #[cycle(elaborate)]
 #[inline(never)]
 fn of_arrow(
-    here: &Here<'_>,
+    here: &mut Here<'_>,
     scope: &Scope,
     from: &plain::Con,
     to: &plain::Con,
@@ -96,7 +103,7 @@ fn of_arrow(
 #[cycle(elaborate)]
 #[inline(never)]
 fn of_poly(
-    here: &Here<'_>,
+    here: &mut Here<'_>,
     scope: &Scope,
     implicit: bool,
     name: &Text,
@@ -117,7 +124,7 @@ fn of_poly(
 #[cycle(elaborate)]
 #[inline(never)]
 fn of_guarded(
-    here: &Here<'_>,
+    here: &mut Here<'_>,
     scope: &Scope,
     left: &plain::Con,
     right: &plain::Con,
@@ -137,7 +144,7 @@ fn of_guarded(
 #[cycle(elaborate)]
 #[inline(never)]
 fn of_lambda(
-    here: &Here<'_>,
+    here: &mut Here<'_>,
     scope: &Scope,
     name: &Text,
     kind: &Kind,
@@ -173,7 +180,7 @@ fn room_for(room: u32, parts: usize) -> Result<u32, ElabFault>
 #[cycle(elaborate)]
 #[inline(never)]
 fn of_record(
-    here: &Here<'_>,
+    here: &mut Here<'_>,
     scope: &Scope,
     more: usize,
     row: &plain::Con,
@@ -222,7 +229,7 @@ fn many_named(here: &Here<'_>, scope: &Scope, path: &Path) -> Result<Many, ElabF
 #[cycle(elaborate)]
 #[inline(never)]
 fn of_apply(
-    here: &Here<'_>,
+    here: &mut Here<'_>,
     scope: &Scope,
     function: &plain::Con,
     arguments: &plain::Cons,
@@ -243,7 +250,7 @@ fn of_apply(
 #[cycle(elaborate)]
 #[inline(never)]
 fn first_applied(
-    here: &Here<'_>,
+    here: &mut Here<'_>,
     scope: &Scope,
     function: &plain::Con,
     argument: &plain::Con,
@@ -307,7 +314,7 @@ fn map_of(alloc: Global, function: KindedCon) -> Result<KindedCon, AllocError> {
 #[cycle(elaborate)]
 #[inline(never)]
 fn with_argument(
-    here: &Here<'_>,
+    here: &mut Here<'_>,
     scope: &Scope,
     function: KindedCon,
     argument: &plain::Con,
@@ -349,7 +356,7 @@ struct Joining {
 #[cycle(elaborate)]
 #[inline(never)]
 fn of_concat(
-    here: &Here<'_>,
+    here: &mut Here<'_>,
     scope: &Scope,
     first: &plain::Con,
     more: &plain::Cons,
@@ -372,7 +379,7 @@ fn of_concat(
 #[cycle(elaborate)]
 #[inline(never)]
 fn with_part(
-    here: &Here<'_>,
+    here: &mut Here<'_>,
     scope: &Scope,
     joining: Joining,
     part: &plain::Con,
@@ -428,7 +435,7 @@ fn value_kind(alloc: Global, rows: Option<&Kind>) -> Result<Kind, AllocError> {
 #[cycle(elaborate)]
 #[inline(never)]
 fn of_tuple(
-    here: &Here<'_>,
+    here: &mut Here<'_>,
     scope: &Scope,
     parts: &plain::Cons,
     wanted: Option<&Kind>,
@@ -459,7 +466,7 @@ fn component(wanted: Option<&Kind>, place: usize) -> Option<&Kind> {
 #[cycle(elaborate)]
 #[inline(never)]
 fn of_kinded(
-    here: &Here<'_>,
+    here: &mut Here<'_>,
     scope: &Scope,
     part: &plain::Con,
     kind: &Kind,
@@ -478,7 +485,7 @@ fn of_kinded(
 #[cycle(elaborate)]
 #[inline(never)]
 fn of_row(
-    here: &Here<'_>,
+    here: &mut Here<'_>,
     scope: &Scope,
     fields: &plain::ConFields,
     wanted: Option<&Kind>,
@@ -539,7 +546,7 @@ fn row_con(alloc: Global, kind: Kind, pairs: Pairs) -> Result<Con, AllocError> {
 #[cycle(elaborate)]
 #[inline(never)]
 fn of_proj(
-    here: &Here<'_>,
+    here: &mut Here<'_>,
     scope: &Scope,
     tuple: &plain::Con,
     numbers: &Numbers,

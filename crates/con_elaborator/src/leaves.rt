@@ -1,4 +1,5 @@
 //! Names, labels, and what their kinds are.
+use con_nodes::left_beside;
 use con_terms::con::Con;
 use con_terms::kind::{Kind, copy_kind};
 use con_terms::place::Place;
@@ -25,6 +26,8 @@ pub struct Here<'a> {
     pub names: &'a SymTable,
     /// The number of the file.
     pub file: u32,
+    /// How many nodes what names stand for may still have.
+    pub left: u32,
 }
 
 impl<'a> Here<'a> {
@@ -59,14 +62,14 @@ pub fn kinds_differ(
 /// A name of the type level. One that isn't in scope is told.
 #[inline(never)]
 pub fn named(
-    here: &Here<'_>,
+    here: &mut Here<'_>,
     scope: &Scope,
     at: u32,
     path: &Path,
     wanted: Option<&Kind>,
 ) -> Result<KindedCon, ElabFault> {
     match scope.type_named(here.alloc, path)? {
-        Some(KnownType::Known(con, kind)) => Ok(KindedCon { con, kind }),
+        Some(KnownType::Known(con, kind)) => known(here, con, kind),
         Some(KnownType::Folder) => folder_wanted(here, scope, wanted),
         Some(KnownType::Map) => map_wanted(here, wanted),
         None => {
@@ -74,6 +77,16 @@ pub fn named(
             Err(ElabFault::Unbound(here.place(at), text))
         }
     }
+}
+
+/// What a name stands for, where it has fewer nodes than are left.
+fn known(here: &mut Here<'_>, con: Con, kind: Kind) -> Result<KindedCon, ElabFault> {
+    let left = left_beside(&con, here.left);
+    if left == 0 {
+        return Err(ElabFault::Memory);
+    }
+    here.left = left;
+    Ok(KindedCon { con, kind })
 }
 
 /// `folder` over rows whose values have this kind.

@@ -1,4 +1,5 @@
 //! Where a term stands: what is in scope, and the number of its file.
+use crate::types::bounded;
 use con_elaborator::con;
 use con_terms::con::Con;
 use con_terms::kind::Kind;
@@ -62,10 +63,10 @@ impl Env {
         Ok(Side { con, kind })
     }
 
-    /// With one more variable.
+    /// With one more variable. One whose type has 100,000 nodes or more counts as want of memory.
     pub fn with_value(&self, alloc: Global, name: &Text, con: Con) -> Result<Env, AllocError> {
         Ok(Env {
-            scope: self.scope.with_value(alloc, name, con)?,
+            scope: self.scope.with_value(alloc, name, bounded(con)?)?,
             file: self.file,
         })
     }

@@ -1,21 +1,56 @@
 //! Types with their heads reduced, and in normal form.
+ghost use Rattle.std.specs.Prelude.{◌<◌};
+
 use crate::want::Want;
+use con_nodes::{MOST, left_beside, most_units};
 use con_terms::con::Con;
 use con_terms::kind::Kind;
 use con_terms::size::has_room;
 use con_terms::substitute::subst;
 use kind_rules::compare::comparison_fuel;
-use row_normal::normal::{NormalFault, normal};
+use row_normal::normal::{Fuel, NormalFault, normal};
 use row_normal::written::{reduce, reduce_head};
 use std::alloc::{AllocError, Global};
+
+/// The units of reductions of a constructor: those of a comparison, but not more than its largest function allows.
+fn fuel_for(c: &Con) -> Fuel
+    ensures { 0 < result.left }
+{
+    let whole = comparison_fuel();
+    let most = most_units(c);
+    if most < whole.left {
+        Fuel { left: most }
+    } else {
+        whole
+    }
+}
+
+/// Where the units that were given are too few: none where they are those of a comparison, else want of memory.
+fn too_few(given: u32) -> Result<Option<Con>, AllocError> {
+    if given < comparison_fuel().left {
+        Err(AllocError)
+    } else {
+        Ok(None)
+    }
+}
+
+/// A constructor with fewer than 100,000 nodes, as it is. More count as want of memory.
+pub fn bounded(c: Con) -> Result<Con, AllocError> {
+    if left_beside(&c, MOST) == 0 {
+        Err(AllocError)
+    } else {
+        Ok(c)
+    }
+}
 
 /// A constructor of which the root stays as it is; none where it is too large.
 #[inline(never)]
 pub fn head_of(alloc: Global, c: &Con) -> Result<Option<Con>, AllocError> {
-    let mut fuel = comparison_fuel();
+    let mut fuel = fuel_for(c);
+    let given = fuel.left;
     match reduce_head(alloc, c, &mut fuel) {
         Ok(head) => Ok(Some(head)),
-        Err(NormalFault::TooLarge) => Ok(None),
+        Err(NormalFault::TooLarge) => too_few(given),
         Err(NormalFault::Memory) => Err(AllocError),
     }
 }
@@ -23,10 +58,11 @@ pub fn head_of(alloc: Global, c: &Con) -> Result<Option<Con>, AllocError> {
 /// A constructor after all steps of reduction, with rows as written; none where it is too large.
 #[inline(never)]
 pub fn reduced(alloc: Global, c: &Con) -> Result<Option<Con>, AllocError> {
-    let mut fuel = comparison_fuel();
+    let mut fuel = fuel_for(c);
+    let given = fuel.left;
     match reduce(alloc, c, &mut fuel) {
         Ok(c) => Ok(Some(c)),
-        Err(NormalFault::TooLarge) => Ok(None),
+        Err(NormalFault::TooLarge) => too_few(given),
         Err(NormalFault::Memory) => Err(AllocError),
     }
 }
@@ -34,10 +70,11 @@ pub fn reduced(alloc: Global, c: &Con) -> Result<Option<Con>, AllocError> {
 /// The normal form of a constructor; none where it is too large.
 #[inline(never)]
 pub fn normal_of(alloc: Global, c: &Con) -> Result<Option<Con>, AllocError> {
-    let mut fuel = comparison_fuel();
+    let mut fuel = fuel_for(c);
+    let given = fuel.left;
     match normal(alloc, c, &Kind::Types, &mut fuel) {
         Ok(form) => Ok(Some(form.into_con())),
-        Err(NormalFault::TooLarge) => Ok(None),
+        Err(NormalFault::TooLarge) => too_few(given),
         Err(NormalFault::Memory) => Err(AllocError),
     }
 }

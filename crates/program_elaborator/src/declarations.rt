@@ -2,11 +2,10 @@
 use crate::fault::{Refusal, memory, refused};
 use crate::folders::{Done, Task, declared, perform};
 use crate::groups::of_group;
-use crate::places::{named, written_type};
+use crate::places::{bounded_copy, named, written_type};
 use crate::terms::{Env, Terms, TypedTerm};
 use crate::texts::LEVELS;
 use crate::types::{of_con, of_datatype};
-use con_terms::copy::copy_con;
 use con_terms::place::Place;
 use core_terms::{Decl, Named, Symbols};
 use name_scopes::{ElabFault, Tops};
@@ -34,14 +33,14 @@ impl<'a, T: Terms> Task for ValueTask<'a, T> {
     }
 }
 
-/// Declares a value.
+/// Declares a value. One whose type has 100,000 nodes or more counts as want of memory.
 fn add_value(
     alloc: Global,
     tops: &mut Tops,
     source: &plain_tree::Named,
     made: &Named,
 ) -> Result<(), AllocError> {
-    let con = copy_con(alloc, &made.con)?;
+    let con = bounded_copy(alloc, &made.con)?;
     tops.add_value(&source.name.text, con)
 }
 

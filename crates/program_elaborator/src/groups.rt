@@ -1,7 +1,7 @@
 //! Values that are declared together: `val rec` and `fun`.
 use crate::fault::{Refusal, memory};
 use crate::folders::{Done, Task, declared, perform};
-use crate::places::{named, written_type};
+use crate::places::{bounded_copy, named, written_type};
 use crate::terms::{Env, Terms, TypedTerm};
 use crate::texts::LEVELS;
 use con_terms::con::Con;
@@ -113,7 +113,8 @@ fn add_names(
     Ok(())
 }
 
-/// Gives the names of a group, the first of which has this number, the types of their terms.
+/// Gives the names of a group, the first of which has this number, the types of their terms. One with 100,000 nodes or
+/// more counts as want of memory.
 fn set_types(
     alloc: Global,
     tops: &mut Tops,
@@ -121,7 +122,7 @@ fn set_types(
     built: &NamedList,
 ) -> Result<(), AllocError> {
     for i in 0..built.items.len() {
-        let con = copy_con(alloc, &built.items[i].con)?;
+        let con = bounded_copy(alloc, &built.items[i].con)?;
         tops.set_value_type(first.saturating_add(i), con);
     }
     Ok(())

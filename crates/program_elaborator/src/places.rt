@@ -1,7 +1,9 @@
 //! Names at their places, and constructors of a kind.
 use crate::folders::on_heap;
 use crate::terms::Env;
+use con_nodes::{MOST, left_beside};
 use con_terms::con::Con;
+use con_terms::copy::copy_con;
 use con_terms::kind::Kind;
 use con_terms::place::Place;
 use con_terms::symbol::Sym;
@@ -47,6 +49,14 @@ pub fn named(
         exp: Box::into_inner(exp),
     };
     on_heap(alloc, value)
+}
+
+/// A copy of a type. One with 100,000 nodes or more counts as want of memory.
+pub fn bounded_copy(alloc: Global, con: &Con) -> Result<Con, AllocError> {
+    if left_beside(con, MOST) == 0 {
+        return Err(AllocError);
+    }
+    copy_con(alloc, con)
 }
 
 /// A type that is written, where one is.

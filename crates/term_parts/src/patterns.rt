@@ -1,4 +1,5 @@
 //! Patterns, matched with a type.
+use con_nodes::{MOST, left_with_all, nodes};
 use con_terms::con::{Con, Cons, Pair, Pairs};
 use con_terms::copy::copy_con;
 use con_terms::kind::Kind;
@@ -127,6 +128,27 @@ fn untold(alloc: Global, known: &KnownBuilder) -> Result<Con, AllocError> {
     Ok(con)
 }
 
+/// How many nodes come in the place of a parameter at most: as many as the largest argument of a datatype has.
+fn largest_argument(arguments: &Cons) -> u32 {
+    let mut largest = 1;
+    for i in 0..arguments.items.len() {
+        let count = nodes(&arguments.items[i]);
+        if largest < count {
+            largest = count;
+        }
+    }
+    largest
+}
+
+/// What a constructor of a datatype holds, at the datatype's arguments. 100,000 nodes or more count as want of memory.
+fn bounded_held(alloc: Global, arguments: &Cons, held: &Con) -> Result<Con, AllocError> {
+    let largest = largest_argument(arguments);
+    if left_with_all(held, largest, MOST) == 0 {
+        return Err(AllocError);
+    }
+    held_at(alloc, arguments, held)
+}
+
 /// The type of what a constructor of a datatype holds, matched with a type.
 #[inline(never)]
 fn held(
@@ -142,7 +164,7 @@ fn held(
             Err(not_wanted(alloc, env, at, t, found)?)
         }
         Some(arguments) => match &known.holds {
-            Some(held) => Ok(held_at(alloc, &arguments, held)?),
+            Some(held) => Ok(bounded_held(alloc, &arguments, held)?),
             None => match normal_of(alloc, t)? {
                 None => Err(ElabFault::Told(Fault::TooLarge(at))),
                 Some(found) => {
