@@ -19,7 +19,15 @@ pub fn left_beside(con: &Con, left: u32) -> u32 {
 /// What is left of so many nodes beside those of a constructor in which `held` nodes come in the place of each
 /// variable; 0 where nothing is.
 pub fn left_with_all(con: &Con, held: u32, left: u32) -> u32 {
-    beside(con, Replaced { every: true, number: 0, held }, left)
+    beside(
+        con,
+        Replaced {
+            every: true,
+            number: 0,
+            held,
+        },
+        left,
+    )
 }
 
 /// What is left of so many nodes beside those of a constructor in which `held` nodes come in the place of the variable
