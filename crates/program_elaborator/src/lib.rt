@@ -2,7 +2,6 @@
 //! modules, with what each may name in scope, over any elaboration of terms.
 #![tactic(auto)]
 
-mod copies;
 pub mod declarations;
 pub mod fault;
 pub mod folders;

@@ -1,11 +1,4 @@
-//! Whole programs. A program is given where it is what its source says: `is_source` of the crate `source_terms`.
-ghost use Rattle.std.specs.Prelude.{◌≡◌, true, map, IfOk};
-ghost use Rattle.core_terms.specs.Lists.{foreigns_view, rules_view};
-ghost use Rattle.core_terms.specs.View.{program_view};
-ghost use Rattle.plain_tree.specs.View.{plain_view};
-ghost use Rattle.source_terms.specs.Programs.{is_source as says};
-
-use crate::copies::{copy_foreigns, copy_rules, copy_texts};
+//! Whole programs.
 use crate::declarations::of_decl;
 use crate::fault::{Refusal, memory, texts_of};
 use crate::folders::Done;
@@ -14,7 +7,6 @@ use crate::texts::all_texts;
 use core_terms::{Decls, Exports, Foreigns, Program, Rules};
 use name_scopes::Tops;
 use plain_tree::Plain;
-use source_terms::is_source;
 use std::alloc::{AllocError, Global};
 use table_rows::{Text, Texts};
 
@@ -32,67 +24,39 @@ pub struct Source {
     pub foreign: Foreigns,
 }
 
-/// The explicit program that modules are, where their terms are elaborated so, or why they aren't. The program is what
-/// the modules say, with their names resolved and nothing left out.
+/// The explicit program that modules are, where their terms are elaborated so, or why they aren't.
 pub fn elaborate_with<T: Terms + Drop>(
     alloc: Global,
     terms: &T,
     source: Source,
-) -> Result<Program, Refusal>
-    ensures source { IfOk result (λ p. says source.modules (map plain_view source.trees.items) source.exported
-        (rules_view source.rules) (foreigns_view source.foreign) (program_view p) ≡ true) }
-{
-    let program = elaborated(alloc, terms, &source)?;
-    held(alloc, &source, program)
-}
-
-/// A program, where it is what its source says. One that isn't counts as want of memory.
-fn held(alloc: Global, source: &Source, program: Program) -> Result<Program, Refusal>
-    ensures source { IfOk result (λ p. says source.now.modules (map plain_view source.now.trees.items)
-        source.now.exported (rules_view source.now.rules) (foreigns_view source.now.foreign) (program_view p) ≡ true) }
-{
-    let read = is_source(
-        alloc,
-        &source.modules,
-        source.trees.as_slice(),
-        &source.exported,
-        &source.rules,
-        &source.foreign,
-        &program,
-    );
-    match read {
-        Ok(true) => Ok(program),
-        _ => Err(memory(alloc)),
-    }
-}
-
-/// The program that inference makes of modules.
-fn elaborated<T: Terms + Drop>(
-    alloc: Global,
-    terms: &T,
-    source: &Source,
 ) -> Result<Program, Refusal> {
-    let Ok(tops) = first_tops(alloc, &source.trees, &source.foreign) else {
+    let Source {
+        modules,
+        trees,
+        exported,
+        rules,
+        foreign,
+    } = source;
+    let Ok(tops) = first_tops(alloc, &trees, foreign) else {
         return Err(memory(alloc));
     };
     let mut whole = Done {
         tops,
         made: Decls::new(alloc),
     };
-    for i in 0..source.trees.len() {
-        whole = of_module(alloc, terms, whole, i, &source.modules, &source.trees[i])?;
+    for i in 0..trees.len() {
+        whole = of_module(alloc, terms, whole, i, &modules, &trees[i])?;
     }
     let Done { tops, made } = whole;
-    match finished(alloc, tops, made, source) {
+    match finished(alloc, tops, made, modules, exported, rules) {
         Ok(program) => Ok(program),
         Err(_) => Err(memory(alloc)),
     }
 }
 
 /// What is declared before all modules.
-fn first_tops(alloc: Global, trees: &Vec<Plain>, foreign: &Foreigns) -> Result<Tops, AllocError> {
+fn first_tops(alloc: Global, trees: &Vec<Plain>, foreign: Foreigns) -> Result<Tops, AllocError> {
     let names = all_texts(alloc, trees)?;
-    let foreign = copy_foreigns(alloc, foreign)?;
     Tops::new(alloc, names, foreign)
 }
 
@@ -175,12 +139,12 @@ fn finished(
     alloc: Global,
     tops: Tops,
     decls: Decls,
-    source: &Source,
+    modules: Texts,
+    exported: Option<Texts>,
+    rules: Rules,
 ) -> Result<Program, AllocError> {
-    let exports = exports(alloc, &tops, &source.exported)?;
+    let exports = exports(alloc, &tops, &exported)?;
     let names = texts_of(alloc, &tops.names)?;
-    let modules = copy_texts(alloc, &source.modules)?;
-    let rules = copy_rules(alloc, &source.rules)?;
     let (foreign, folders) = tops.into_parts();
     Ok(Program {
         names,
