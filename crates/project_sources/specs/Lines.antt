@@ -5,7 +5,9 @@ use Rattle.surface_grammar.specs.declared.fault.ParseFault.TheVariants as parser
 use Rattle.ur_lexer.specs.declared.fault.LexFault.{LexFault}
 use Rattle.ur_lexer.specs.declared.fault.LexFault.TheVariants as lexer
 use Rattle.project_sources.specs.declared.fault.SourceFault.{SourceFault}
-use Rattle.project_sources.specs.declared.fault.SourceFault.TheVariants.{BadProject, UnknownForeign, MissingFile, FileTooLong, NotUtf8, Unread, Unparsed, ReadFault, Memory}
+use Rattle.project_sources.specs.declared.fault.SourceFault.TheVariants.{BadProject, UnknownForeign, MissingFile}
+use Rattle.project_sources.specs.declared.fault.SourceFault.TheVariants.{FileTooLong, NotUtf8, Unread, Unparsed}
+use Rattle.project_sources.specs.declared.fault.SourceFault.TheVariants.{ReadFault, Memory}
 
 -- the line of a refusal of a whole file
 abbrev pub line_whole : List ℕ → List ℕ → List ℕ

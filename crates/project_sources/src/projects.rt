@@ -1,6 +1,18 @@
 //! Reading a project: its project file, and then each module with its interface.
-ghost use Rattle.std.specs.Prelude.{◌≡◌, ◌≤◌, IsErrOf};
+ghost use Rattle.std.specs.Prelude.{◌≡◌, ◌≤◌, ◌++◌, ℕ, List, codes};
+ghost use Rattle.std.specs.Prelude.{IfErr, IfOk, IfSome, IsErrOf, MatchOption};
+ghost use Rattle.surface_grammar.specs.Trees.{Node};
 ghost use Rattle.ur_outside.specs.Causes.{Rose};
+ghost use Rattle.project_files.specs.Projects.{IsProject as IsProjectText, is_among};
+ghost use Rattle.project_files.specs.View.{said_by};
+ghost use Rattle.project_sources.specs.Causes.{Says};
+ghost use Rattle.project_sources.specs.Modules.{HasModuleFile, HasNoModule, HaveNoModules};
+ghost use Rattle.project_sources.specs.Modules.{file_in, interface_file, module_file};
+ghost use Rattle.project_sources.specs.Projects.{AllThere, IsCause, IsOnlyProject, IsProjectFile};
+ghost use Rattle.project_sources.specs.Projects.{SaysNoProject, SaysProject};
+ghost use Rattle.project_sources.specs.Steps.{IsBadFolder, IsBadLine, IsUnknown};
+ghost use Rattle.project_sources.specs.View.{AreModuleSources, IsInterfaceRead, IsModuleRead};
+ghost use Rattle.project_sources.specs.View.{IsModuleSource, IsProject};
 
 use crate::SourceFault;
 use crate::modules::{ModuleSource, interface_of, tree_of};
@@ -19,7 +31,10 @@ pub struct Sources {
 }
 
 /// The one name that is a project file's, where there is exactly one.
-fn only_project(names: &Texts) -> Option<&Text> {
+fn only_project(names: &Texts) -> Option<&Text>
+    ensures { MatchOption result ((name : List ℕ) → IsOnlyProject names.now name → ⊥)
+        (λ name. IsOnlyProject names.now name.now) }
+{
     let mut found = None;
     for i in 0..names.len() {
         let name = names.at(i);
@@ -35,7 +50,8 @@ fn only_project(names: &Texts) -> Option<&Text> {
 
 /// The refusal of a folder.
 fn bad_folder(alloc: Global, dir: &str) -> SourceFault
-    ensures { result ≡ SourceFault.ReadFault → ⊥ }
+    ensures cause { Says (IsBadFolder dir.now) result }
+    ensures others { result ≡ SourceFault.ReadFault → ⊥ }
 {
     match Text::of(alloc, dir) {
         Ok(file) => SourceFault::BadProject { file, line: 0 },
@@ -45,6 +61,9 @@ fn bad_folder(alloc: Global, dir: &str) -> SourceFault
 
 /// The name of the project file in a folder.
 fn project_name<F: Files>(alloc: Global, files: &mut F, dir: &str) -> Result<Text, SourceFault>
+    ensures name { IfOk result (λ name. IfSome (F.told files.old) (λ files. IsProjectFile files dir.now name)) }
+    ensures refused { IfErr result (λ fault. IfSome (F.told files.old)
+        (λ files. Says (SaysNoProject files dir.now) fault)) }
     ensures kept { F.told files.new ≡ F.told files.old }
     ensures later { F.faults files.old ≤ F.faults files.new }
     ensures failed { IsErrOf result SourceFault.ReadFault → Rose (F.faults files.old) (F.faults files.new) }
@@ -64,7 +83,9 @@ fn project_name<F: Files>(alloc: Global, files: &mut F, dir: &str) -> Result<Tex
 
 /// What a project file says.
 fn project_of(alloc: Global, file: Text, bytes: &[u8]) -> Result<Project, SourceFault>
-    ensures { IsErrOf result SourceFault.ReadFault → ⊥ }
+    ensures says { IfOk result (λ project. IsProjectText bytes.now (said_by project)) }
+    ensures refused { IfErr result (Says (IsBadLine file bytes.now)) }
+    ensures others { IsErrOf result SourceFault.ReadFault → ⊥ }
 {
     match read_project(alloc, bytes) {
         Ok(project) => Ok(project),
@@ -79,6 +100,10 @@ fn read_project_file<F: Files>(
     files: &mut F,
     dir: &str,
 ) -> Result<Project, SourceFault>
+    ensures says { IfOk result (λ project. IfSome (F.told files.old)
+        (λ files. SaysProject files dir.now (said_by project))) }
+    ensures refused { IfErr result (λ fault. IfSome (F.told files.old)
+        (λ files. Says (SaysNoProject files dir.now) fault)) }
     ensures kept { F.told files.new ≡ F.told files.old }
     ensures later { F.faults files.old ≤ F.faults files.new }
     ensures failed { IsErrOf result SourceFault.ReadFault → Rose (F.faults files.old) (F.faults files.new) }
@@ -91,7 +116,9 @@ fn read_project_file<F: Files>(
 }
 
 /// Whether a text is among others.
-fn is_among(text: &str, others: &Texts) -> bool {
+fn is_among(text: &str, others: &Texts) -> bool
+    ensures { result ≡ is_among text.now others.now }
+{
     for i in 0..others.len() {
         if others.at(i).as_str() == text {
             return true;
@@ -102,7 +129,9 @@ fn is_among(text: &str, others: &Texts) -> bool {
 
 /// Each foreign module is among those that are there.
 fn knows_foreign(alloc: Global, names: &[Text], objects: &Texts) -> Result<(), SourceFault>
-    ensures { IsErrOf result SourceFault.ReadFault → ⊥ }
+    ensures known { IfOk result (λ _. AllThere objects.now names.now) }
+    ensures unknown { IfErr result (Says (IsUnknown objects.now names.now)) }
+    ensures others { IsErrOf result SourceFault.ReadFault → ⊥ }
 {
     for name in names {
         if !is_among(name.as_str(), objects) {
@@ -114,7 +143,9 @@ fn knows_foreign(alloc: Global, names: &[Text], objects: &Texts) -> Result<(), S
 }
 
 /// A module's file with this ending.
-fn file_of(alloc: Global, line: &str, ending: &str) -> Result<Text, AllocError> {
+fn file_of(alloc: Global, line: &str, ending: &str) -> Result<Text, AllocError>
+    ensures { IfOk result (λ file. file ≡ line.now ++ ending.now) }
+{
     let mut file = Text::of(alloc, line)?;
     file.push_str(ending)?;
     Ok(file)
@@ -127,6 +158,10 @@ fn read_tree<F: Files>(
     dir: &str,
     line: &str,
 ) -> Result<Tree, SourceFault>
+    ensures tree { IfOk result (λ tree. IfSome (F.told files.old)
+        (λ files. IsModuleRead (file_in files dir.now (module_file line.now)) tree)) }
+    ensures refused { IfErr result (λ fault. IfSome (F.told files.old)
+        (λ files. Says (HasNoModule files dir.now line.now) fault)) }
     ensures kept { F.told files.new ≡ F.told files.old }
     ensures later { F.faults files.old ≤ F.faults files.new }
     ensures failed { IsErrOf result SourceFault.ReadFault → Rose (F.faults files.old) (F.faults files.new) }
@@ -145,6 +180,11 @@ fn read_interface<F: Files>(
     dir: &str,
     line: &str,
 ) -> Result<Option<Tree>, SourceFault>
+    ensures tree { IfOk result (λ tree. IfSome (F.told files.old)
+        (λ files. IsInterfaceRead (file_in files dir.now (interface_file line.now)) tree)) }
+    ensures refused { IfErr result (λ fault. IfSome (F.told files.old)
+        (λ files. (tree : Node) → HasModuleFile (file_in files dir.now (module_file line.now)) tree
+        → Says (HasNoModule files dir.now line.now) fault)) }
     ensures kept { F.told files.new ≡ F.told files.old }
     ensures later { F.faults files.old ≤ F.faults files.new }
     ensures failed { IsErrOf result SourceFault.ReadFault → Rose (F.faults files.old) (F.faults files.new) }
@@ -166,6 +206,10 @@ fn read_module<F: Files>(
     dir: &str,
     line: &Text,
 ) -> Result<ModuleSource, SourceFault>
+    ensures source { IfOk result (λ source. IfSome (F.told files.old)
+        (λ files. IsModuleSource files dir.now line.now source)) }
+    ensures refused { IfErr result (λ fault. IfSome (F.told files.old)
+        (λ files. Says (HasNoModule files dir.now line.now) fault)) }
     ensures kept { F.told files.new ≡ F.told files.old }
     ensures later { F.faults files.old ≤ F.faults files.new }
     ensures failed { IsErrOf result SourceFault.ReadFault → Rose (F.faults files.old) (F.faults files.new) }
@@ -187,6 +231,10 @@ fn read_modules<F: Files>(
     dir: &str,
     lines: &[Text],
 ) -> Result<Vec<ModuleSource>, SourceFault>
+    ensures modules { IfOk result (λ sources. IfSome (F.told files.old)
+        (λ files. AreModuleSources files dir.now lines.now sources.items)) }
+    ensures refused { IfErr result (λ fault. IfSome (F.told files.old)
+        (λ files. Says (HaveNoModules files dir.now lines.now) fault)) }
     ensures kept { F.told files.new ≡ F.told files.old }
     ensures later { F.faults files.old ≤ F.faults files.new }
     ensures failed { IsErrOf result SourceFault.ReadFault → Rose (F.faults files.old) (F.faults files.new) }
@@ -208,6 +256,12 @@ pub fn read_sources<F: Files>(
     dir: &str,
     objects: &Texts,
 ) -> Result<Sources, SourceFault>
+    // What is read is the project that the folder holds: its one project file, and its modules in order.
+    ensures whole { IfOk result (λ sources. IfSome (F.told files.old)
+        (λ files. IsProject files dir.now objects.now sources)) }
+    // A fault tells the first thing that stands in the way.
+    ensures told { IfErr result (λ fault. IfSome (F.told files.old)
+        (λ files. IsCause files dir.now objects.now fault)) }
     ensures kept { F.told files.new ≡ F.told files.old }
     ensures later { F.faults files.old ≤ F.faults files.new }
     ensures failed { IsErrOf result SourceFault.ReadFault → Rose (F.faults files.old) (F.faults files.new) }

@@ -1,6 +1,11 @@
 //! Reading the files of a folder.
-ghost use Rattle.std.specs.Prelude.{◌≡◌, ◌≤◌, ◌++◌, codes, length, IfOk, IfSome, IsErrOf, string_bytes};
+ghost use Rattle.std.specs.Prelude.{◌≡◌, ◌≤◌, ◌++◌, ℕ, List, Option, Some, codes, length};
+ghost use Rattle.std.specs.Prelude.{IfErr, IfOk, IfSome, IsErrOf, string_bytes};
 ghost use Rattle.ur_outside.specs.Causes.{Rose};
+ghost use Rattle.ur_outside.specs.Files.{IsFront};
+ghost use Rattle.project_sources.specs.Causes.{Says};
+ghost use Rattle.project_sources.specs.Modules.{file_in};
+ghost use Rattle.project_sources.specs.Steps.{IsTooLong};
 
 use crate::{LONGEST, SourceFault};
 use std::alloc::{AllocError, Global};
@@ -21,6 +26,10 @@ pub fn path_of(alloc: Global, dir: &str, file: &str) -> Result<String, AllocErro
 fn whole(alloc: Global, file: &str, held: Held) -> Result<Bytes, SourceFault>
     requires { length held.bytes ≤ LONGEST }
     ensures few { IfOk result (λ bytes. length bytes ≤ LONGEST) }
+    ensures all { (content : Option (List ℕ)) → IsFront content LONGEST held.bytes held.more
+        → IfOk result (λ bytes. content ≡ Some bytes) }
+    ensures refused { (content : Option (List ℕ)) → IsFront content LONGEST held.bytes held.more
+        → IfErr result (Says (IsTooLong content file.now)) }
     ensures others { IsErrOf result SourceFault.ReadFault → ⊥ }
 {
     let Held { bytes, more } = held;
@@ -39,6 +48,12 @@ pub fn read_in<F: Files>(
     file: &str,
 ) -> Result<Option<Bytes>, SourceFault>
     ensures few { IfOk result (λ found. IfSome found (λ bytes. length bytes ≤ LONGEST)) }
+    // What is read is what the file holds, all of it.
+    ensures content { IfOk result (λ found. IfSome (F.told files.old)
+        (λ files. file_in files dir.now file.now ≡ found)) }
+    // A file is refused where it is too long.
+    ensures refused { IfErr result (λ fault. IfSome (F.told files.old)
+        (λ files. Says (IsTooLong (file_in files dir.now file.now) file.now) fault)) }
     ensures kept { F.told files.new ≡ F.told files.old }
     ensures later { F.faults files.old ≤ F.faults files.new }
     ensures failed { IsErrOf result SourceFault.ReadFault → Rose (F.faults files.old) (F.faults files.new) }
