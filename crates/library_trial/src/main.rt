@@ -5,6 +5,7 @@
 //! large inputs, that a definition means what a person expects, and what becomes of failures outside.
 #![tactic(auto)]
 
+mod constructors;
 mod links;
 mod outside;
 mod page_texts;
@@ -12,6 +13,7 @@ mod pages;
 mod projects;
 mod region;
 mod sources;
+mod terms;
 mod texts;
 mod tokens;
 
@@ -111,5 +113,25 @@ fn main(rt: HostRuntime) -> io::Result<()> {
         &rt,
         "failures of reading",
         sources::failures_of_reading_are_told(alloc),
+    )?;
+    tell(
+        &rt,
+        "texts and symbols",
+        constructors::texts_and_symbols(alloc),
+    )?;
+    tell(
+        &rt,
+        "substitution goes under binders",
+        constructors::substitution_goes_under_binders(alloc),
+    )?;
+    tell(
+        &rt,
+        "deep constructors",
+        constructors::deep_constructors(alloc),
+    )?;
+    tell(
+        &rt,
+        "the deepest terms are let go",
+        terms::the_deepest_terms_are_let_go(alloc),
     )
 }

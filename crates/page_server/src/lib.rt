@@ -5,8 +5,6 @@ pub mod command;
 pub mod laws;
 pub mod module;
 pub mod refusal;
-#[cfg(test)]
-mod tests;
 pub mod words;
 
 pub use command::{Ended, top};

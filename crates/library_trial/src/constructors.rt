@@ -1,7 +1,7 @@
-//! Symbols, kinds and constructors: what the clauses do not say, that memory is enough, and how deep recursion goes.
+//! Symbols and constructors: what the clauses do not say, that memory is enough, and how deep recursion goes.
 use con_terms::con::Con;
 use con_terms::copy::copy_con;
-use con_terms::kind::{Kind, Kinds, copy_kind, same_kind};
+use con_terms::kind::Kind;
 use con_terms::size::{fits, has_room};
 use con_terms::substitute::{shift, subst};
 use con_terms::symbol::SymTable;
@@ -80,15 +80,4 @@ pub fn deep_constructors(alloc: Global) -> Result<bool, AllocError> {
             && !has_room(&outermost)
             && fits(&copy_con(alloc, &outermost)?, 2),
     )
-}
-
-/// A kind of two kinds, and its copy.
-pub fn kinds_one_by_one(alloc: Global) -> Result<bool, AllocError> {
-    let mut kinds = Kinds::new(alloc);
-    kinds.push(Kind::Types)?;
-    kinds.push(Kind::Names)?;
-    let two = kinds.len() == 2;
-    let tuple = Kind::Tuple(kinds);
-    let again = copy_kind(alloc, &tuple)?;
-    Ok(two && same_kind(&tuple, &again) && !same_kind(&tuple, &Kind::Types))
 }

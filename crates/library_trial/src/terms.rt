@@ -1,0 +1,36 @@
+//! Terms as deep as they are built.
+use con_terms::place::Place;
+use core_terms::exp::{Form, Sigil};
+use core_terms::{Exp, Item, Items};
+use std::alloc::{AllocError, Global};
+
+/// The term `7` at this byte.
+fn number(at: u32) -> Exp {
+    Exp {
+        place: Place { file: 0, at },
+        added: false,
+        form: Form::Int(7),
+    }
+}
+
+/// A call in a call, so many times: as deep as terms are built.
+fn nested(alloc: Global, levels: u32) -> Result<Exp, AllocError> {
+    let mut term = number(0);
+    for _ in 0..levels {
+        let mut items = Items::new(alloc);
+        items.push(Item::Term(term))?;
+        let head = Box::new(alloc, number(1))?;
+        term = Exp {
+            place: Place { file: 0, at: 1 },
+            added: false,
+            form: Form::Call(head, Sigil::Plain, items),
+        };
+    }
+    Ok(term)
+}
+
+/// A term as deep as terms are built.
+pub fn the_deepest_terms_are_let_go(alloc: Global) -> Result<bool, AllocError> {
+    let term = nested(alloc, 1200)?;
+    Ok(term.place.at == 1)
+}
