@@ -4,6 +4,5 @@
 # processors. The last two columns are what a commit costs its thread beyond its work, in nanoseconds: taking the turn,
 # giving it back, and waiting for the others.
 set -eu
-cd "$(dirname "$(readlink -f "${BASH_SOURCE[0]}")")/../crates/cell_bench"
-[ -x out/cell_bench ] || rt run >/dev/null
-exec ./out/cell_bench full
+here=$(dirname "$(readlink -f "${BASH_SOURCE[0]}")")
+exec "$(python3 "$here/build.py" cell_bench)" full
