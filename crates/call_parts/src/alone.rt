@@ -115,6 +115,11 @@ pub fn begin(alloc: Global, call: &mut Call<'_>, want: &Want) -> Result<(), Elab
             call.alone = false;
             insert(alloc, call, wanted)
         }
+        // (a page's type takes nothing, so all that comes first is inserted)
+        Want::Page(_, _) => {
+            call.alone = false;
+            insert_all(alloc, call, &Con::UnitCon)
+        }
         _ => {
             reduce_rest(alloc, call)?;
             if !begins_implicit(&call.rest) {
