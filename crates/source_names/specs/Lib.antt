@@ -8,3 +8,5 @@ pub mod Reading
 pub mod View
 -- What the parts of a form that is read from left to right are.
 pub mod Parts
+-- Numbers by which most texts differ.
+pub mod Marks

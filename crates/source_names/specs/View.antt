@@ -6,7 +6,7 @@ use Rattle.core_terms.specs.declared.program.FolderName.{FolderName}
 use Rattle.core_terms.specs.declared.program.Program.{Program}
 use Rattle.source_names.specs.Scopes.{Words, DeclaredValue, DeclaredType, DeclaredBuilder, Declared, Tables, Scope, capital}
 use Rattle.source_names.specs.declared.builders.BasisPlace.{BasisPlace}
-use Rattle.source_names.specs.declared.known.KnownValue.{KnownValue}
+use Rattle.source_names.specs.declared.marked.KnownValue.{KnownValue}
 use Rattle.source_names.specs.declared.known.KnownType.{KnownType}
 use Rattle.source_names.specs.declared.known.KnownBuilder.{KnownBuilder}
 use Rattle.source_names.specs.declared.known.Known.{Known}

@@ -6,6 +6,7 @@ ghost use Rattle.source_names.specs.Scopes as scopes;
 ghost use Rattle.source_names.specs.Standing as standing;
 ghost use Rattle.source_names.specs.View.{builder_found, declared_view};
 
+use crate::marked::{KnownValue, is_value, mark_of};
 use crate::texts::same_text;
 use con_terms::con::Con;
 use con_terms::copy::copy_con;
@@ -13,13 +14,6 @@ use con_terms::symbol::Sym;
 use plain_tree::Path;
 use std::alloc::{AllocError, Global};
 use table_rows::Text;
-
-/// A value that a module declares: the number of the module, and the name.
-#[derive(Drop)]
-pub struct KnownValue {
-    pub home: usize,
-    pub name: Text,
-}
 
 /// A name of the type level that a module declares, and what it means.
 #[derive(Drop)]
@@ -117,7 +111,8 @@ impl Known {
     {
         let home = self.last_home();
         let name = name.copy(alloc)?;
-        self.values.push(KnownValue { home, name })?;
+        let mark = mark_of(&name);
+        self.values.push(KnownValue { home, mark, name })?;
         Ok(())
     }
 
@@ -191,11 +186,11 @@ impl Known {
     fn value_in(&self, name: &Text, home: usize) -> Option<usize>
         ensures { result ≡ standing.value_in name.now (declared_view self.now).values home }
     {
+        let mark = mark_of(name);
         let mut left = self.values.len();
         while left > 0 {
             left -= 1;
-            let value = &self.values[left];
-            if value.home == home && same_text(&value.name, name) {
+            if is_value(&self.values[left], home, mark, name) {
                 return Some(left);
             }
         }
