@@ -3,7 +3,10 @@
 ghost use Rattle.std.specs.Prelude.{◌≤◌, IfOk};
 
 pub use crate::leaves::KindedCon;
-use crate::leaves::{Here, copy_maybe, folder_over, kinds_differ, labelled, map_over, named};
+use crate::leaves::{
+    Here, boxed_kind, boxed_rows, con_on_heap, copy_maybe, folder_over, kind_on_heap, kinded,
+    kinds_differ, labelled, map_over, named,
+};
 use con_nodes::MOST;
 use con_terms::con::{Con, Cons, Pair, Pairs};
 use con_terms::kind::{Kind, Kinds, copy_kind, same_kind};
@@ -12,9 +15,7 @@ use name_scopes::{ElabFault, KnownType, Scope};
 use plain_tree::{Numbers, Path, con as plain};
 use std::alloc::{AllocError, Global};
 use table_rows::Text;
-use type_makers::forms::{
-    applied, arrow, arrow_kind, empty_row, guarded, joined, lambda, poly, record, row_kind,
-};
+use type_makers::forms::{empty_row, row_kind};
 
 /// The constructor of the type level that a constructor of a source is, with its kind.
 ///
@@ -37,7 +38,7 @@ pub fn con(
         left: MOST,
     };
     let KindedCon { con, kind } = elaborate(&mut here, scope, c, wanted, room)?;
-    Ok((con, kind))
+    Ok((Box::into_inner(con), Box::into_inner(kind)))
 }
 
 /// A constructor, with one level fewer for its parts.
@@ -70,15 +71,17 @@ fn elaborate(
             of_apply(here, scope, function, arguments, left)
         }
         plain::ConForm::Concat(first, more) => of_concat(here, scope, first, more, wanted, left),
-        plain::ConForm::Unit => Ok(KindedCon {
-            con: Con::UnitCon,
-            kind: Kind::Units,
-        }),
+        plain::ConForm::Unit => Ok(kinded(here.alloc, Con::UnitCon, Kind::Units)?),
         plain::ConForm::Tuple(parts) => of_tuple(here, scope, parts, wanted, left),
         plain::ConForm::Kinded(part, kind) => of_kinded(here, scope, part, kind, left),
         plain::ConForm::Row(fields) => of_row(here, scope, fields, wanted, left),
         plain::ConForm::Proj(tuple, numbers) => of_proj(here, scope, tuple, numbers, left),
     }
+}
+
+/// A constructor of the kind `Type`.
+fn of_type(alloc: Global, con: Con) -> Result<KindedCon, ElabFault> {
+    Ok(kinded(alloc, con, Kind::Types)?)
 }
 
 /// `c -> d`
@@ -93,10 +96,7 @@ fn of_arrow(
 ) -> Result<KindedCon, ElabFault> {
     let from = elaborate(here, scope, from, Some(&Kind::Types), room)?;
     let to = elaborate(here, scope, to, Some(&Kind::Types), room)?;
-    Ok(KindedCon {
-        con: arrow(here.alloc, from.con, to.con)?,
-        kind: Kind::Types,
-    })
+    of_type(here.alloc, Con::Arrow(from.con, to.con))
 }
 
 /// `x :: k -> c`, or `x ::: k -> c`
@@ -113,11 +113,8 @@ fn of_poly(
 ) -> Result<KindedCon, ElabFault> {
     let under = scope.with_con(here.alloc, name, kind)?;
     let body = elaborate(here, &under, body, Some(&Kind::Types), room)?;
-    let kind = copy_kind(here.alloc, kind)?;
-    Ok(KindedCon {
-        con: poly(here.alloc, implicit, kind, body.con)?,
-        kind: Kind::Types,
-    })
+    let kind = kind_on_heap(here.alloc, copy_kind(here.alloc, kind)?)?;
+    of_type(here.alloc, Con::Poly(implicit, kind, body.con))
 }
 
 /// `[c ~ d] => e`
@@ -134,10 +131,7 @@ fn of_guarded(
     let left = elaborate(here, scope, left, None, room)?;
     let right = elaborate(here, scope, right, None, room)?;
     let body = elaborate(here, scope, body, Some(&Kind::Types), room)?;
-    Ok(KindedCon {
-        con: guarded(here.alloc, left.con, right.con, body.con)?,
-        kind: Kind::Types,
-    })
+    of_type(here.alloc, Con::Guarded(left.con, right.con, body.con))
 }
 
 /// `fn x :: k => c`
@@ -158,12 +152,17 @@ fn of_lambda(
         _ => None,
     };
     let body = elaborate(here, &under, body, gives, room)?;
-    let from = copy_kind(here.alloc, kind)?;
-    let kind = copy_kind(here.alloc, kind)?;
-    Ok(KindedCon {
-        con: lambda(here.alloc, kind, body.con)?,
-        kind: arrow_kind(here.alloc, from, body.kind)?,
-    })
+    Ok(function_of(here.alloc, kind, body)?)
+}
+
+/// The function of a constructor of a kind with this body.
+fn function_of(alloc: Global, kind: &Kind, body: KindedCon) -> Result<KindedCon, AllocError> {
+    let KindedCon { con, kind: gives } = body;
+    let from = kind_on_heap(alloc, copy_kind(alloc, kind)?)?;
+    let under = kind_on_heap(alloc, copy_kind(alloc, kind)?)?;
+    let con = con_on_heap(alloc, Con::Lambda(under, con))?;
+    let kind = kind_on_heap(alloc, Kind::Arrow(from, gives))?;
+    Ok(KindedCon { con, kind })
 }
 
 /// What is left of a number of levels, where this many parts nest in one another.
@@ -189,14 +188,12 @@ fn of_record(
     let room = room_for(room, more)?;
     let types = row_kind(here.alloc, Kind::Types)?;
     let row = elaborate(here, scope, row, Some(&types), room)?;
-    let mut built = record(here.alloc, row.con)?;
+    let mut built = con_on_heap(here.alloc, Con::Record(row.con))?;
     for _ in 0..more {
-        built = record(here.alloc, built)?;
+        built = con_on_heap(here.alloc, Con::Record(built))?;
     }
-    Ok(KindedCon {
-        con: built,
-        kind: Kind::Types,
-    })
+    let kind = kind_on_heap(here.alloc, Kind::Types)?;
+    Ok(KindedCon { con: built, kind })
 }
 
 /// Whether a constructor is a name that stands for what has many kinds, as `folder` and `map`.
@@ -276,23 +273,24 @@ fn first_applied(
 #[inline(never)]
 fn folder_of(here: &Here<'_>, scope: &Scope, row: KindedCon) -> Result<KindedCon, ElabFault> {
     let KindedCon { con, kind } = row;
-    let values = value_kind(here.alloc, Some(&kind))?;
+    let values = value_kind(here.alloc, Some(&*kind))?;
     let folder = folder_over(here, scope, values)?;
-    Ok(KindedCon {
-        con: applied(here.alloc, folder.con, con)?,
-        kind: Kind::Types,
-    })
+    of_type(here.alloc, Con::App(folder.con, con))
 }
 
-/// The kinds at the two ends of a kind of functions; `Type` where it isn't one.
-fn ends_of(alloc: Global, functions: &Kind) -> Result<(Kind, Kind), AllocError> {
+/// `map` between the kinds at the two ends of a kind of functions; between types where it isn't one.
+fn map_between(alloc: Global, functions: &Kind) -> Result<KindedCon, AllocError> {
     match functions {
-        Kind::Arrow(from, to) => {
-            let from = copy_kind(alloc, from)?;
-            let to = copy_kind(alloc, to)?;
-            Ok((from, to))
-        }
-        _ => Ok((Kind::Types, Kind::Types)),
+        Kind::Arrow(from, to) => map_over(alloc, from, to),
+        _ => map_over(alloc, &Kind::Types, &Kind::Types),
+    }
+}
+
+/// What a kind of functions gives, on the heap; `Type` where it isn't one.
+fn given_kind(alloc: Global, functions: Box<Kind>) -> Result<Box<Kind>, AllocError> {
+    match Box::into_inner(functions) {
+        Kind::Arrow(_, to) => Ok(to),
+        _ => kind_on_heap(alloc, Kind::Types),
     }
 }
 
@@ -300,14 +298,10 @@ fn ends_of(alloc: Global, functions: &Kind) -> Result<(Kind, Kind), AllocError> 
 #[inline(never)]
 fn map_of(alloc: Global, function: KindedCon) -> Result<KindedCon, AllocError> {
     let KindedCon { con, kind } = function;
-    let (from, to) = ends_of(alloc, &kind)?;
-    let rows = row_kind(alloc, copy_kind(alloc, &from)?)?;
-    let gives = row_kind(alloc, copy_kind(alloc, &to)?)?;
-    let map = map_over(alloc, from, to)?;
-    Ok(KindedCon {
-        con: applied(alloc, map.con, con)?,
-        kind: arrow_kind(alloc, rows, gives)?,
-    })
+    let map = map_between(alloc, &kind)?;
+    let con = con_on_heap(alloc, Con::App(map.con, con))?;
+    let kind = given_kind(alloc, map.kind)?;
+    Ok(KindedCon { con, kind })
 }
 
 /// What is applied to one argument more. What is no function has no kind then, and that is told.
@@ -321,20 +315,33 @@ fn with_argument(
     room: u32,
 ) -> Result<KindedCon, ElabFault> {
     let KindedCon { con, kind } = function;
-    match kind {
-        Kind::Arrow(from, to) => {
-            let argument_con = elaborate(here, scope, argument, Some(&from), room)?;
-            Ok(KindedCon {
-                con: applied(here.alloc, con, argument_con.con)?,
-                kind: Box::into_inner(to),
-            })
+    let given = elaborate(here, scope, argument, taken_kind(&kind), room)?;
+    match Box::into_inner(kind) {
+        Kind::Arrow(_, to) => {
+            let con = con_on_heap(here.alloc, Con::App(con, given.con))?;
+            Ok(KindedCon { con, kind: to })
         }
-        other => {
-            let given = elaborate(here, scope, argument, None, room)?;
-            let wanted = arrow_kind(here.alloc, given.kind, Kind::Types)?;
-            Err(kinds_differ(here, argument.at, wanted, other)?)
-        }
+        other => Err(no_function(here, argument.at, given.kind, other)?),
     }
+}
+
+/// The kind of what functions of a kind take, where it is one of functions.
+fn taken_kind(functions: &Kind) -> Option<&Kind> {
+    match functions {
+        Kind::Arrow(from, _) => Some(&**from),
+        _ => None,
+    }
+}
+
+/// The fault that what is applied to a constructor of this kind is no function.
+fn no_function(
+    here: &Here<'_>,
+    at: u32,
+    given: Box<Kind>,
+    found: Kind,
+) -> Result<ElabFault, AllocError> {
+    let types = kind_on_heap(here.alloc, Kind::Types)?;
+    kinds_differ(here, at, Kind::Arrow(given, types), found)
 }
 
 /// Whether a constructor is a row without fields, which may have many kinds.
@@ -348,8 +355,8 @@ fn is_empty_row(c: &plain::Con) -> bool {
 /// The rows of a concatenation so far. None stands for one without fields whose kind isn't known yet.
 #[derive(Drop)]
 struct Joining {
-    parts: Vec<Option<Con>>,
-    kind: Option<Kind>,
+    parts: Vec<Option<Box<Con>>>,
+    kind: Option<Box<Kind>>,
 }
 
 /// `c ++ d ++ ..`. Rows without fields before the others have the kind of these.
@@ -390,7 +397,7 @@ fn with_part(
         parts.push(None).map_err(AllocError::from)?;
         return Ok(Joining { parts, kind });
     }
-    let part = elaborate(here, scope, part, kind.as_ref(), room)?;
+    let part = elaborate(here, scope, part, kind.as_deref(), room)?;
     parts.push(Some(part.con)).map_err(AllocError::from)?;
     Ok(Joining {
         parts,
@@ -404,22 +411,40 @@ fn joined_parts(alloc: Global, joining: Joining) -> Result<KindedCon, ElabFault>
     let Joining { parts, kind } = joining;
     let kind = match kind {
         Some(kind) => kind,
-        None => row_kind(alloc, Kind::Types)?,
+        None => boxed_rows(alloc, &Kind::Types)?,
     };
-    let mut built: Option<Con> = None;
+    let mut built = None;
     for part in parts {
-        let row = match part {
-            Some(row) => row,
-            None => empty_row(alloc, value_kind(alloc, Some(&kind))?)?,
-        };
-        built = Some(match built {
-            Some(left) => joined(alloc, left, row)?,
-            None => row,
-        });
+        built = Some(joined_to(alloc, built, part, &kind)?);
     }
     match built {
         Some(con) => Ok(KindedCon { con, kind }),
         None => Err(ElabFault::Memory),
+    }
+}
+
+/// A row, where there is one, joined with a part of a concatenation whose rows have this kind.
+fn joined_to(
+    alloc: Global,
+    left: Option<Box<Con>>,
+    part: Option<Box<Con>>,
+    kind: &Kind,
+) -> Result<Box<Con>, AllocError> {
+    let row = part_row(alloc, part, kind)?;
+    match left {
+        Some(left) => con_on_heap(alloc, Con::Cat(left, row)),
+        None => Ok(row),
+    }
+}
+
+/// A part of a concatenation whose rows have this kind; one without fields, where it is none.
+fn part_row(alloc: Global, part: Option<Box<Con>>, kind: &Kind) -> Result<Box<Con>, AllocError> {
+    match part {
+        Some(row) => Ok(row),
+        None => {
+            let row = empty_row(alloc, value_kind(alloc, Some(kind))?)?;
+            con_on_heap(alloc, row)
+        }
     }
 }
 
@@ -445,13 +470,16 @@ fn of_tuple(
     let mut kinds = Kinds::new(here.alloc);
     for i in 0..parts.items.len() {
         let part = elaborate(here, scope, &parts.items[i], component(wanted, i), room)?;
-        cons.push(part.con)?;
-        kinds.push(part.kind)?;
+        push_part(&mut cons, &mut kinds, part)?;
     }
-    Ok(KindedCon {
-        con: Con::Tuple(cons),
-        kind: Kind::Tuple(kinds),
-    })
+    Ok(kinded(here.alloc, Con::Tuple(cons), Kind::Tuple(kinds))?)
+}
+
+/// Puts a component and its kind last.
+fn push_part(cons: &mut Cons, kinds: &mut Kinds, part: KindedCon) -> Result<(), AllocError> {
+    let KindedCon { con, kind } = part;
+    cons.push(Box::into_inner(con))?;
+    kinds.push(Box::into_inner(kind))
 }
 
 /// The kind that is wanted of a component, where one is.
@@ -477,7 +505,7 @@ fn of_kinded(
         Ok(built)
     } else {
         let wanted = copy_kind(here.alloc, kind)?;
-        Err(kinds_differ(here, part.at, wanted, built.kind)?)
+        Err(kinds_differ(here, part.at, wanted, Box::into_inner(built.kind))?)
     }
 }
 
@@ -492,7 +520,7 @@ fn of_row(
     room: u32,
 ) -> Result<KindedCon, ElabFault> {
     let mut kind = match wanted {
-        Some(Kind::Row(kind)) => Some(copy_kind(here.alloc, kind)?),
+        Some(Kind::Row(kind)) => Some(boxed_kind(here.alloc, kind)?),
         _ => None,
     };
     let mut pairs = Pairs::new(here.alloc);
@@ -508,15 +536,23 @@ fn of_row(
         let KindedCon {
             con: value,
             kind: found,
-        } = elaborate(here, scope, &field.value, kind.as_ref(), room)?;
+        } = elaborate(here, scope, &field.value, kind.as_deref(), room)?;
         kind = kept_kind(kind, found);
-        pairs.push(Pair { name, value })?;
+        push_field(&mut pairs, name, value)?;
     }
     row_of(here.alloc, kind, pairs)
 }
 
+/// Puts a field last.
+fn push_field(pairs: &mut Pairs, name: Box<Con>, value: Box<Con>) -> Result<(), AllocError> {
+    pairs.push(Pair {
+        name: Box::into_inner(name),
+        value: Box::into_inner(value),
+    })
+}
+
 /// The kind that was known before, else the one that is found.
-fn kept_kind(known: Option<Kind>, found: Kind) -> Option<Kind> {
+fn kept_kind(known: Option<Box<Kind>>, found: Box<Kind>) -> Option<Box<Kind>> {
     match known {
         Some(kind) => Some(kind),
         None => Some(found),
@@ -525,21 +561,14 @@ fn kept_kind(known: Option<Kind>, found: Kind) -> Option<Kind> {
 
 /// A row of fields, whose values have a kind.
 #[inline(never)]
-fn row_of(alloc: Global, kind: Option<Kind>, pairs: Pairs) -> Result<KindedCon, ElabFault> {
-    let kind = match kind {
+fn row_of(alloc: Global, kind: Option<Box<Kind>>, pairs: Pairs) -> Result<KindedCon, ElabFault> {
+    let values = match kind {
         Some(kind) => kind,
-        None => Kind::Types,
+        None => kind_on_heap(alloc, Kind::Types)?,
     };
-    let rows = row_kind(alloc, copy_kind(alloc, &kind)?)?;
-    Ok(KindedCon {
-        con: row_con(alloc, kind, pairs)?,
-        kind: rows,
-    })
-}
-
-/// A row literal.
-fn row_con(alloc: Global, kind: Kind, pairs: Pairs) -> Result<Con, AllocError> {
-    Ok(Con::Row(Box::new(alloc, kind)?, pairs))
+    let kind = boxed_rows(alloc, &values)?;
+    let con = con_on_heap(alloc, Con::Row(values, pairs))?;
+    Ok(KindedCon { con, kind })
 }
 
 /// `c.1.2`
@@ -569,36 +598,62 @@ fn component_of(
     number: u64,
 ) -> Result<KindedCon, ElabFault> {
     let KindedCon { con, kind } = tuple;
-    let kinds = match kind {
-        Kind::Tuple(kinds) => kinds,
-        other => {
-            let wanted = longer(here.alloc, &Kinds::new(here.alloc))?;
-            return Err(kinds_differ(here, at, wanted, other)?);
-        }
-    };
-    if number == 0 || number > kinds.len() as u64 || number > u32::MAX as u64 {
-        let wanted = longer(here.alloc, &kinds)?;
-        return Err(kinds_differ(here, at, wanted, Kind::Tuple(kinds))?);
+    match place_of(&kind, number) {
+        Some(place) => Ok(projected(here.alloc, con, place, &kind)?),
+        None => Err(no_component(here, at, kind)?),
     }
-    let index = number - 1;
-    let kind = copy_kind(here.alloc, kinds.at(index as usize))?;
-    Ok(KindedCon {
-        con: proj(here.alloc, con, index as u32)?,
-        kind,
-    })
 }
 
-/// The kind of tuples of these kinds and one more, which is `Type`.
-fn longer(alloc: Global, kinds: &Kinds) -> Result<Kind, AllocError> {
+/// The place of a component in a tuple of this kind, counted from 0, where it has one with this number.
+fn place_of(kind: &Kind, number: u64) -> Option<u32> {
+    match kind {
+        Kind::Tuple(kinds) => {
+            if number == 0 || number > kinds.len() as u64 || number > u32::MAX as u64 {
+                return None;
+            }
+            Some((number - 1) as u32)
+        }
+        _ => None,
+    }
+}
+
+/// The component at this place of a tuple of this kind.
+fn projected(
+    alloc: Global,
+    tuple: Box<Con>,
+    place: u32,
+    kind: &Kind,
+) -> Result<KindedCon, AllocError> {
+    let con = con_on_heap(alloc, Con::Proj(tuple, place))?;
+    let kind = kind_at(alloc, kind, place)?;
+    Ok(KindedCon { con, kind })
+}
+
+/// The kind of the component at this place of a tuple of this kind, on the heap.
+fn kind_at(alloc: Global, kind: &Kind, place: u32) -> Result<Box<Kind>, AllocError> {
+    match kind {
+        Kind::Tuple(kinds) => match kinds.items.get(place as usize) {
+            Some(kind) => boxed_kind(alloc, kind),
+            None => kind_on_heap(alloc, Kind::Types),
+        },
+        _ => kind_on_heap(alloc, Kind::Types),
+    }
+}
+
+/// The fault that a constructor of a kind is no tuple with so many components.
+fn no_component(here: &Here<'_>, at: u32, found: Box<Kind>) -> Result<ElabFault, AllocError> {
+    let wanted = longer(here.alloc, &found)?;
+    kinds_differ(here, at, wanted, Box::into_inner(found))
+}
+
+/// The kind of tuples of the kinds of a tuple's kind and one more, which is `Type`; of no more, where it isn't one.
+fn longer(alloc: Global, kind: &Kind) -> Result<Kind, AllocError> {
     let mut more = Kinds::new(alloc);
-    for i in 0..kinds.len() {
-        more.push(copy_kind(alloc, kinds.at(i))?)?;
+    if let Kind::Tuple(kinds) = kind {
+        for i in 0..kinds.len() {
+            more.push(copy_kind(alloc, kinds.at(i))?)?;
+        }
     }
     more.push(Kind::Types)?;
     Ok(Kind::Tuple(more))
-}
-
-/// `c.i`, counted from 0
-fn proj(alloc: Global, tuple: Con, index: u32) -> Result<Con, AllocError> {
-    Ok(Con::Proj(Box::new(alloc, tuple)?, index))
 }

@@ -14,8 +14,25 @@ use type_makers::forms::{arrow_kind, row_kind};
 /// A constructor with its kind.
 #[derive(Drop)]
 pub struct KindedCon {
-    pub con: Con,
-    pub kind: Kind,
+    pub con: Box<Con>,
+    pub kind: Box<Kind>,
+}
+
+/// A constructor, on the heap.
+pub fn con_on_heap(alloc: Global, con: Con) -> Result<Box<Con>, AllocError> {
+    Ok(Box::new(alloc, con)?)
+}
+
+/// A kind, on the heap.
+pub fn kind_on_heap(alloc: Global, kind: Kind) -> Result<Box<Kind>, AllocError> {
+    Ok(Box::new(alloc, kind)?)
+}
+
+/// A constructor with its kind, on the heap.
+pub fn kinded(alloc: Global, con: Con, kind: Kind) -> Result<KindedCon, AllocError> {
+    let con = con_on_heap(alloc, con)?;
+    let kind = kind_on_heap(alloc, kind)?;
+    Ok(KindedCon { con, kind })
 }
 
 /// What stays the same throughout a constructor.
@@ -40,11 +57,22 @@ impl<'a> Here<'a> {
     }
 }
 
-/// A copy of a kind, where there is one.
-pub fn copy_maybe(alloc: Global, kind: Option<&Kind>) -> Result<Option<Kind>, AllocError> {
+/// A copy of a kind, on the heap.
+pub fn boxed_kind(alloc: Global, kind: &Kind) -> Result<Box<Kind>, AllocError> {
+    kind_on_heap(alloc, copy_kind(alloc, kind)?)
+}
+
+/// The kind of rows of a kind, on the heap.
+pub fn boxed_rows(alloc: Global, kind: &Kind) -> Result<Box<Kind>, AllocError> {
+    let kind = boxed_kind(alloc, kind)?;
+    kind_on_heap(alloc, Kind::Row(kind))
+}
+
+/// A copy of a kind on the heap, where there is one.
+pub fn copy_maybe(alloc: Global, kind: Option<&Kind>) -> Result<Option<Box<Kind>>, AllocError> {
     match kind {
         None => Ok(None),
-        Some(kind) => Ok(Some(copy_kind(alloc, kind)?)),
+        Some(kind) => Ok(Some(boxed_kind(alloc, kind)?)),
     }
 }
 
@@ -86,17 +114,15 @@ fn known(here: &mut Here<'_>, con: Con, kind: Kind) -> Result<KindedCon, ElabFau
         return Err(ElabFault::Memory);
     }
     here.left = left;
-    Ok(KindedCon { con, kind })
+    Ok(kinded(here.alloc, con, kind)?)
 }
 
 /// `folder` over rows whose values have this kind.
 pub fn folder_over(here: &Here<'_>, scope: &Scope, kind: Kind) -> Result<KindedCon, ElabFault> {
     let symbol = scope.folder(here.alloc, &kind)?;
     let rows = row_kind(here.alloc, kind)?;
-    Ok(KindedCon {
-        con: Con::Basic(symbol),
-        kind: arrow_kind(here.alloc, rows, Kind::Types)?,
-    })
+    let of_rows = arrow_kind(here.alloc, rows, Kind::Types)?;
+    Ok(kinded(here.alloc, Con::Basic(symbol), of_rows)?)
 }
 
 /// `folder` alone, over rows of the kind that is wanted.
@@ -113,29 +139,44 @@ fn folder_wanted(
     folder_over(here, scope, Kind::Types)
 }
 
+/// `from -> to`, on the heap.
+fn of_each(alloc: Global, from: &Kind, to: &Kind) -> Result<Box<Kind>, AllocError> {
+    let from = boxed_kind(alloc, from)?;
+    let to = boxed_kind(alloc, to)?;
+    kind_on_heap(alloc, Kind::Arrow(from, to))
+}
+
+/// `{from} -> {to}`, on the heap.
+fn of_rows(alloc: Global, from: &Kind, to: &Kind) -> Result<Box<Kind>, AllocError> {
+    let from = boxed_rows(alloc, from)?;
+    let to = boxed_rows(alloc, to)?;
+    kind_on_heap(alloc, Kind::Arrow(from, to))
+}
+
+/// The kind of `map` from a kind to another.
+fn kind_of_map(alloc: Global, from: &Kind, to: &Kind) -> Result<Box<Kind>, AllocError> {
+    let function = of_each(alloc, from, to)?;
+    let rows = of_rows(alloc, from, to)?;
+    kind_on_heap(alloc, Kind::Arrow(function, rows))
+}
+
 /// `map` from a kind to another.
-pub fn map_over(alloc: Global, from: Kind, to: Kind) -> Result<KindedCon, AllocError> {
-    let of_each = arrow_kind(alloc, copy_kind(alloc, &from)?, copy_kind(alloc, &to)?)?;
-    let rows = row_kind(alloc, copy_kind(alloc, &from)?)?;
-    let gives = row_kind(alloc, copy_kind(alloc, &to)?)?;
-    let of_rows = arrow_kind(alloc, rows, gives)?;
-    let con = Con::Map(Box::new(alloc, from)?, Box::new(alloc, to)?);
-    Ok(KindedCon {
-        con,
-        kind: arrow_kind(alloc, of_each, of_rows)?,
-    })
+pub fn map_over(alloc: Global, from: &Kind, to: &Kind) -> Result<KindedCon, AllocError> {
+    let kind = kind_of_map(alloc, from, to)?;
+    let first = boxed_kind(alloc, from)?;
+    let second = boxed_kind(alloc, to)?;
+    let con = con_on_heap(alloc, Con::Map(first, second))?;
+    Ok(KindedCon { con, kind })
 }
 
 /// `map` alone, of the kind that is wanted.
 fn map_wanted(here: &Here<'_>, wanted: Option<&Kind>) -> Result<KindedCon, ElabFault> {
     if let Some(Kind::Arrow(function, _)) = wanted {
         if let Kind::Arrow(from, to) = &**function {
-            let from = copy_kind(here.alloc, from)?;
-            let to = copy_kind(here.alloc, to)?;
             return Ok(map_over(here.alloc, from, to)?);
         }
     }
-    Ok(map_over(here.alloc, Kind::Types, Kind::Types)?)
+    Ok(map_over(here.alloc, &Kind::Types, &Kind::Types)?)
 }
 
 /// The name of a field. The symbols of all names were made before.
@@ -146,10 +187,7 @@ pub fn labelled(here: &Here<'_>, label: &Label) -> Result<KindedCon, ElabFault> 
         Label::Number(number) => here.names.find(number.to_string(here.alloc)?.as_str()),
     };
     match found {
-        Some(symbol) => Ok(KindedCon {
-            con: Con::Name(symbol),
-            kind: Kind::Names,
-        }),
+        Some(symbol) => Ok(kinded(here.alloc, Con::Name(symbol), Kind::Names)?),
         None => Err(ElabFault::Memory),
     }
 }
