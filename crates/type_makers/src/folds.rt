@@ -4,8 +4,9 @@ ghost use Rattle.con_terms.specs.Trees as tree;
 ghost use Rattle.con_terms.specs.View.{con_tree, kind_tree};
 ghost use Rattle.core_terms.specs.Basis as meant;
 
-use crate::forms::{
-    applied, arrow, arrow_kind, empty_row, field_row, guarded, joined, poly, row_kind,
+use crate::made::{
+    applied, arrow, arrow_kind, basic_at, empty_row, field_row, guarded, joined, names_kind, poly,
+    row_kind, types_kind, unit_con, units_kind, var,
 };
 use con_terms::con::Con;
 use con_terms::kind::{Kind, copy_kind};
@@ -16,8 +17,7 @@ use std::alloc::{AllocError, Global};
 fn rows_of(alloc: Global, kind: &Kind) -> Result<Kind, AllocError>
     ensures { IfOk result (λ new. kind_tree new ≡ tree.row_of (kind_tree kind.now)) }
 {
-    let kind = copy_kind(alloc, kind)?;
-    row_kind(alloc, kind)
+    row_kind(alloc, copy_kind(alloc, kind))
 }
 
 /// `tf r -> tf ([nm = v] ++ r)`, where these have the numbers 3, 0, 2, 1
@@ -26,11 +26,9 @@ fn visit(alloc: Global, kind: &Kind) -> Result<Con, AllocError>
         (tree.app (tree.var 3) (tree.cat (tree.row (kind_tree kind.now) (tree.pair (tree.var 2)
         (tree.var 1) tree.no_pairs)) (tree.var 0)))) }
 {
-    let before = applied(alloc, Con::Var(3), Con::Var(0))?;
-    let field = field_row(alloc, copy_kind(alloc, kind)?, Con::Var(2), Con::Var(1))?;
-    let row = joined(alloc, field, Con::Var(0))?;
-    let after = applied(alloc, Con::Var(3), row)?;
-    arrow(alloc, before, after)
+    let field = field_row(alloc, copy_kind(alloc, kind), var(2), var(1));
+    let after = applied(alloc, var(3), joined(alloc, field, var(0)));
+    arrow(alloc, applied(alloc, var(3), var(0)), after)
 }
 
 /// `nm :: Name -> v :: kind -> r :: {kind} -> [[nm] ~ r] => tf r -> tf ([nm = v] ++ r)`, with `tf`
@@ -38,11 +36,21 @@ fn visit(alloc: Global, kind: &Kind) -> Result<Con, AllocError>
 pub fn fold_step_type(alloc: Global, kind: &Kind) -> Result<Con, AllocError>
     ensures { IfOk result (λ new. con_tree new ≡ meant.fold_step_type (kind_tree kind.now)) }
 {
-    let label = field_row(alloc, Kind::Units, Con::Var(2), Con::UnitCon)?;
-    let body = guarded(alloc, label, Con::Var(0), visit(alloc, kind)?)?;
-    let body = poly(alloc, false, rows_of(alloc, kind)?, body)?;
-    let body = poly(alloc, false, copy_kind(alloc, kind)?, body)?;
-    poly(alloc, false, Kind::Names, body)
+    let label = field_row(alloc, units_kind(), var(2), unit_con());
+    let body = guarded(alloc, label, var(0), visit(alloc, kind));
+    let body = poly(alloc, false, rows_of(alloc, kind), body);
+    let body = poly(alloc, false, copy_kind(alloc, kind), body);
+    poly(alloc, false, names_kind(), body)
+}
+
+/// `r ::: {kind} -> folder r -> tf r`, where `tf` has the number 0 outside
+fn walks(alloc: Global, kind: &Kind, folder: Sym) -> Result<Con, AllocError>
+    ensures { IfOk result (λ new. con_tree new ≡ tree.poly true (tree.row_of (kind_tree kind.now))
+        (tree.arrow (tree.app (tree.basic folder.number) (tree.var 0)) (tree.app (tree.var 1) (tree.var 0)))) }
+{
+    let walked = basic_at(alloc, folder, var(0));
+    let body = arrow(alloc, walked, applied(alloc, var(1), var(0)));
+    poly(alloc, true, rows_of(alloc, kind), body)
 }
 
 /// The type of `fold` over rows of kind `{kind}`, where the symbol is that of `folder` at the kind:
@@ -50,14 +58,10 @@ pub fn fold_step_type(alloc: Global, kind: &Kind) -> Result<Con, AllocError>
 pub fn fold_type(alloc: Global, kind: &Kind, folder: Sym) -> Result<Con, AllocError>
     ensures { IfOk result (λ new. con_tree new ≡ meant.fold_type (kind_tree kind.now) folder.number) }
 {
-    let walked = applied(alloc, Con::Basic(folder), Con::Var(0))?;
-    let whole = applied(alloc, Con::Var(1), Con::Var(0))?;
-    let body = arrow(alloc, walked, whole)?;
-    let body = poly(alloc, true, rows_of(alloc, kind)?, body)?;
-    let empty = empty_row(alloc, copy_kind(alloc, kind)?)?;
-    let start = applied(alloc, Con::Var(0), empty)?;
-    let body = arrow(alloc, start, body)?;
-    let body = arrow(alloc, fold_step_type(alloc, kind)?, body)?;
-    let result_kind = arrow_kind(alloc, rows_of(alloc, kind)?, Kind::Types)?;
+    let empty = empty_row(alloc, copy_kind(alloc, kind));
+    let start = applied(alloc, var(0), empty);
+    let body = arrow(alloc, start, walks(alloc, kind, folder));
+    let body = arrow(alloc, fold_step_type(alloc, kind), body);
+    let result_kind = arrow_kind(alloc, rows_of(alloc, kind), types_kind());
     poly(alloc, false, result_kind, body)
 }

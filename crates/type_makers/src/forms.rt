@@ -2,9 +2,10 @@
 ghost use Rattle.std.specs.Prelude.{◌≡◌, IfOk};
 ghost use Rattle.con_terms.specs.Equal.{mapped as mapped_row};
 ghost use Rattle.con_terms.specs.Trees as tree;
-ghost use Rattle.con_terms.specs.View.{con_tree, kind_tree, pairs_tree};
+ghost use Rattle.con_terms.specs.View.{con_tree, kind_tree};
 
-use con_terms::con::{Con, Pair, Pairs};
+use crate::made;
+use con_terms::con::{Con, Pair};
 use con_terms::kind::Kind;
 use std::alloc::{AllocError, Global};
 
@@ -12,53 +13,49 @@ use std::alloc::{AllocError, Global};
 pub fn arrow(alloc: Global, from: Con, to: Con) -> Result<Con, AllocError>
     ensures { IfOk result (λ new. con_tree new ≡ tree.arrow (con_tree from) (con_tree to)) }
 {
-    Ok(Con::Arrow(Box::new(alloc, from)?, Box::new(alloc, to)?))
+    made::arrow(alloc, Ok(from), Ok(to))
 }
 
 /// `x :: kind -> body`, or `x ::: kind -> body` where it is implicit
 pub fn poly(alloc: Global, implicit: bool, kind: Kind, body: Con) -> Result<Con, AllocError>
     ensures { IfOk result (λ new. con_tree new ≡ tree.poly implicit (kind_tree kind) (con_tree body)) }
 {
-    Ok(Con::Poly(implicit, Box::new(alloc, kind)?, Box::new(alloc, body)?))
+    made::poly(alloc, implicit, Ok(kind), Ok(body))
 }
 
 /// `[left ~ right] => body`
 pub fn guarded(alloc: Global, left: Con, right: Con, body: Con) -> Result<Con, AllocError>
     ensures { IfOk result (λ new. con_tree new ≡ tree.guarded (con_tree left) (con_tree right) (con_tree body)) }
 {
-    Ok(Con::Guarded(
-        Box::new(alloc, left)?,
-        Box::new(alloc, right)?,
-        Box::new(alloc, body)?,
-    ))
+    made::guarded(alloc, Ok(left), Ok(right), Ok(body))
 }
 
 /// `$row`
 pub fn record(alloc: Global, row: Con) -> Result<Con, AllocError>
     ensures { IfOk result (λ new. con_tree new ≡ tree.record_of (con_tree row)) }
 {
-    Ok(Con::Record(Box::new(alloc, row)?))
+    made::record(alloc, Ok(row))
 }
 
 /// `function argument`
 pub fn applied(alloc: Global, function: Con, argument: Con) -> Result<Con, AllocError>
     ensures { IfOk result (λ new. con_tree new ≡ tree.app (con_tree function) (con_tree argument)) }
 {
-    Ok(Con::App(Box::new(alloc, function)?, Box::new(alloc, argument)?))
+    made::applied(alloc, Ok(function), Ok(argument))
 }
 
 /// `left ++ right`
 pub fn joined(alloc: Global, left: Con, right: Con) -> Result<Con, AllocError>
     ensures { IfOk result (λ new. con_tree new ≡ tree.cat (con_tree left) (con_tree right)) }
 {
-    Ok(Con::Cat(Box::new(alloc, left)?, Box::new(alloc, right)?))
+    made::joined(alloc, Ok(left), Ok(right))
 }
 
 /// `fn x :: kind => body`
 pub fn lambda(alloc: Global, kind: Kind, body: Con) -> Result<Con, AllocError>
     ensures { IfOk result (λ new. con_tree new ≡ tree.lambda (kind_tree kind) (con_tree body)) }
 {
-    Ok(Con::Lambda(Box::new(alloc, kind)?, Box::new(alloc, body)?))
+    made::lambda(alloc, Ok(kind), Ok(body))
 }
 
 /// `map function row`, where the function takes the first kind to the second
@@ -72,30 +69,16 @@ pub fn mapped(
     ensures { IfOk result (λ new. con_tree new ≡
         mapped_row (kind_tree from) (kind_tree to) (con_tree function) (con_tree row)) }
 {
-    let map = Con::Map(Box::new(alloc, from)?, Box::new(alloc, to)?);
-    let function = applied(alloc, map, function)?;
-    applied(alloc, function, row)
-}
-
-/// The fields with one more in front.
-fn with_field(alloc: Global, name: Con, value: Con) -> Result<Pairs, AllocError>
-    ensures { IfOk result (λ new. pairs_tree new ≡ tree.pair (con_tree name) (con_tree value) tree.no_pairs) }
-{
-    let mut items = Vec::new(alloc);
-    items.push(Pair { name, value })?;
-    Ok(Pairs { items })
+    let map = made::map_of(alloc, Ok(from), Ok(to));
+    let at_function = made::applied(alloc, map, Ok(function));
+    made::applied(alloc, at_function, Ok(row))
 }
 
 /// `[]`, whose values would have this kind
 pub fn empty_row(alloc: Global, kind: Kind) -> Result<Con, AllocError>
     ensures { IfOk result (λ new. con_tree new ≡ tree.row (kind_tree kind) tree.no_pairs) }
 {
-    Ok(Con::Row(
-        Box::new(alloc, kind)?,
-        Pairs {
-            items: Vec::new(alloc),
-        },
-    ))
+    made::empty_row(alloc, Ok(kind))
 }
 
 /// `[name = value]`, where the value has this kind
@@ -103,8 +86,7 @@ pub fn field_row(alloc: Global, kind: Kind, name: Con, value: Con) -> Result<Con
     ensures { IfOk result (λ new. con_tree new ≡
         tree.row (kind_tree kind) (tree.pair (con_tree name) (con_tree value) tree.no_pairs)) }
 {
-    let fields = with_field(alloc, name, value)?;
-    Ok(Con::Row(Box::new(alloc, kind)?, fields))
+    made::field_row(alloc, Ok(kind), Ok(name), Ok(value))
 }
 
 /// `[first = value, second = other]`, where the values have this kind
@@ -118,22 +100,19 @@ pub fn two_field_row(
         (tree.pair (con_tree first.name) (con_tree first.value) (tree.pair (con_tree second.name)
         (con_tree second.value) tree.no_pairs))) }
 {
-    let mut items = Vec::new(alloc);
-    items.push(first)?;
-    items.push(second)?;
-    Ok(Con::Row(Box::new(alloc, kind)?, Pairs { items }))
+    made::two_field_row(alloc, Ok(kind), Ok(first), Ok(second))
 }
 
 /// `{kind}`
 pub fn row_kind(alloc: Global, kind: Kind) -> Result<Kind, AllocError>
     ensures { IfOk result (λ new. kind_tree new ≡ tree.row_of (kind_tree kind)) }
 {
-    Ok(Kind::Row(Box::new(alloc, kind)?))
+    made::row_kind(alloc, Ok(kind))
 }
 
 /// `from -> to`
 pub fn arrow_kind(alloc: Global, from: Kind, to: Kind) -> Result<Kind, AllocError>
     ensures { IfOk result (λ new. kind_tree new ≡ tree.to (kind_tree from) (kind_tree to)) }
 {
-    Ok(Kind::Arrow(Box::new(alloc, from)?, Box::new(alloc, to)?))
+    made::arrow_kind(alloc, Ok(from), Ok(to))
 }

@@ -1,18 +1,19 @@
 //! Where tags stand, what they hold, and the types of their attributes.
-ghost use Rattle.std.specs.Prelude.{◌≡◌, [], ◌∷◌, if◌then◌else◌, option_map, IfOk};
+ghost use Rattle.std.specs.Prelude.{◌≡◌, [], ◌∷◌, if◌then◌else◌, option_map, Some, IfOk};
+ghost use Rattle.con_terms.specs.Trees as tree;
 ghost use Rattle.con_terms.specs.Trees.{Cn};
 ghost use Rattle.con_terms.specs.View.{con_tree};
 ghost use Rattle.xml_trees.specs.declared.source_name.AttrName.TheVariants as attr;
 ghost use Rattle.core_terms.specs.Markup as meant;
 ghost use Rattle.core_terms.specs.Names.{form_context};
 ghost use Rattle.core_terms.specs.Types as types;
+ghost use Rattle.type_makers.specs.Made.{Makes};
 ghost use Rattle.type_makers.specs.Standing.{where_of, sort_view};
 
-use crate::forms::{arrow, record};
+use crate::made::{arrow, record};
+use crate::made_types::transaction;
 use crate::symbols;
-use crate::types::{
-    bool_type, int_type, one_unit, page_type, string_type, transaction_of, two_units, url_type,
-};
+use crate::types::{int_type, one_unit, page_type, string_type, two_units, url_type};
 use con_terms::con::Con;
 use con_terms::symbol::Sym;
 use core_terms::{AttrName, TagName};
@@ -114,16 +115,23 @@ pub fn attribute_type(
     ensures { IfOk result (λ new. option_map con_tree new ≡ meant.attribute_type (con_tree uses) tag attr) }
 {
     match attr {
-        AttrName::Title => Ok(title_type(tag)),
-        AttrName::Link => link_type(alloc, tag),
-        AttrName::Href => Ok(href_type(tag)),
-        AttrName::Src => Ok(source_type(tag)),
-        AttrName::Alt => Ok(alternative_type(tag)),
-        AttrName::Border => Ok(border_type(tag)),
-        AttrName::Value => Ok(value_type(tag)),
-        AttrName::Size => Ok(size_type(tag)),
+        AttrName::Title => without(uses, Ok(title_type(tag))),
+        AttrName::Link => without(uses, link_type(alloc, tag)),
+        AttrName::Href => without(uses, Ok(href_type(tag))),
+        AttrName::Src => without(uses, Ok(source_type(tag))),
+        AttrName::Alt => without(uses, Ok(alternative_type(tag))),
+        AttrName::Border => without(uses, Ok(border_type(tag))),
+        AttrName::Value => without(uses, Ok(value_type(tag))),
+        AttrName::Size => without(uses, Ok(size_type(tag))),
         AttrName::Action => action_type(alloc, uses, tag),
     }
+}
+
+/// What was given, with the fields let go.
+fn without(_uses: Con, given: Result<Option<Con>, AllocError>) -> Result<Option<Con>, AllocError>
+    ensures { result ≡ given }
+{
+    given
 }
 
 /// The type of `title`, of tags of text.
@@ -231,18 +239,31 @@ fn action_type(alloc: Global, uses: Con, tag: TagName) -> Result<Option<Con>, Al
     ensures { IfOk result (λ new. option_map con_tree new ≡ meant.attribute_type (con_tree uses) tag attr.Action) }
 {
     match tag {
-        TagName::Submit => {
-            let fields = record(alloc, uses)?;
-            Ok(Some(arrow(alloc, fields, page_action(alloc)?)?))
-        }
-        _ => Ok(None),
+        TagName::Submit => made_action(action_of(alloc, uses)),
+        _ => without(uses, Ok(None)),
     }
+}
+
+/// The type that was made, as one that a tag has.
+fn made_action(made: Result<Con, AllocError>) -> Result<Option<Con>, AllocError>
+    ensures { (t : Cn) → Makes made t → IfOk result (λ new. option_map con_tree new ≡ Some t) }
+{
+    match made {
+        Ok(made) => Ok(Some(made)),
+        Err(error) => Err(error),
+    }
+}
+
+/// `$uses -> transaction page`
+fn action_of(alloc: Global, uses: Con) -> Result<Con, AllocError>
+    ensures { Makes result (tree.arrow (tree.record_of (con_tree uses)) (types.transaction_of types.page_type)) }
+{
+    arrow(alloc, record(alloc, Ok(uses)), page_action(alloc))
 }
 
 /// `transaction page`
 fn page_action(alloc: Global) -> Result<Con, AllocError>
     ensures { IfOk result (λ new. con_tree new ≡ types.transaction_of types.page_type) }
 {
-    let page = page_type(alloc)?;
-    transaction_of(alloc, page)
+    transaction(alloc, page_type(alloc))
 }

@@ -1,15 +1,11 @@
 //! The types of the basis, and what stands in them.
 ghost use Rattle.std.specs.Prelude.{◌≡◌, [], ◌∷◌, IfOk};
-ghost use Rattle.con_terms.specs.Trees as tree;
 ghost use Rattle.con_terms.specs.View.{con_tree};
 ghost use Rattle.core_terms.specs.Types as meant;
 
-use crate::forms::{
-    applied, empty_row, field_row, joined, lambda, mapped, poly, record, row_kind, two_field_row,
-};
-use crate::symbols;
-use con_terms::con::{Con, Pair};
-use con_terms::kind::Kind;
+use crate::made::{self, basic_at};
+use crate::{made_types, symbols};
+use con_terms::con::Con;
 use con_terms::symbol::Sym;
 use std::alloc::{AllocError, Global};
 
@@ -59,136 +55,113 @@ pub fn sequence_type() -> Con
 pub fn no_types(alloc: Global) -> Result<Con, AllocError>
     ensures { IfOk result (λ new. con_tree new ≡ meant.no_types) }
 {
-    empty_row(alloc, Kind::Types)
+    made_types::no_fields(alloc)
 }
 
 /// `[name = t]`
 pub fn one_field(alloc: Global, name: Con, t: Con) -> Result<Con, AllocError>
     ensures { IfOk result (λ new. con_tree new ≡ meant.one_field (con_tree name) (con_tree t)) }
 {
-    field_row(alloc, Kind::Types, name, t)
+    made::field_row(alloc, made::types_kind(), Ok(name), Ok(t))
 }
 
 /// `{}`
 pub fn unit_type(alloc: Global) -> Result<Con, AllocError>
     ensures { IfOk result (λ new. con_tree new ≡ meant.unit_type) }
 {
-    let row = no_types(alloc)?;
-    record(alloc, row)
-}
-
-/// A basic name at one argument.
-fn basic_at(alloc: Global, s: Sym, argument: Con) -> Result<Con, AllocError>
-    ensures { IfOk result (λ new. con_tree new ≡ tree.app (tree.basic s.number) (con_tree argument)) }
-{
-    applied(alloc, Con::Basic(s), argument)
+    made::record(alloc, no_types(alloc))
 }
 
 /// `transaction t`
 pub fn transaction_of(alloc: Global, t: Con) -> Result<Con, AllocError>
     ensures { IfOk result (λ new. con_tree new ≡ meant.transaction_of (con_tree t)) }
 {
-    basic_at(alloc, symbols::TRANSACTION, t)
+    basic_at(alloc, symbols::TRANSACTION, Ok(t))
 }
 
 /// `option t`
 pub fn option_of(alloc: Global, t: Con) -> Result<Con, AllocError>
     ensures { IfOk result (λ new. con_tree new ≡ meant.option_of (con_tree t)) }
 {
-    basic_at(alloc, symbols::OPTION, t)
+    basic_at(alloc, symbols::OPTION, Ok(t))
 }
 
 /// `show t`
 pub fn show_of(alloc: Global, t: Con) -> Result<Con, AllocError>
     ensures { IfOk result (λ new. con_tree new ≡ meant.show_of (con_tree t)) }
 {
-    basic_at(alloc, symbols::SHOW, t)
+    basic_at(alloc, symbols::SHOW, Ok(t))
 }
 
 /// `eq t`
 pub fn eq_of(alloc: Global, t: Con) -> Result<Con, AllocError>
     ensures { IfOk result (λ new. con_tree new ≡ meant.eq_of (con_tree t)) }
 {
-    basic_at(alloc, symbols::EQ, t)
+    basic_at(alloc, symbols::EQ, Ok(t))
 }
 
 /// `ord t`
 pub fn ord_of(alloc: Global, t: Con) -> Result<Con, AllocError>
     ensures { IfOk result (λ new. con_tree new ≡ meant.ord_of (con_tree t)) }
 {
-    basic_at(alloc, symbols::ORD, t)
+    basic_at(alloc, symbols::ORD, Ok(t))
 }
 
 /// `num t`
 pub fn num_of(alloc: Global, t: Con) -> Result<Con, AllocError>
     ensures { IfOk result (λ new. con_tree new ≡ meant.num_of (con_tree t)) }
 {
-    basic_at(alloc, symbols::NUM, t)
+    basic_at(alloc, symbols::NUM, Ok(t))
 }
 
 /// `sql_table columns`
 pub fn table_of(alloc: Global, columns: Con) -> Result<Con, AllocError>
     ensures { IfOk result (λ new. con_tree new ≡ meant.table_of (con_tree columns)) }
 {
-    basic_at(alloc, symbols::SQL_TABLE, columns)
+    basic_at(alloc, symbols::SQL_TABLE, Ok(columns))
 }
 
 /// `sql_query tables results`
 pub fn query_of(alloc: Global, tables: Con, results: Con) -> Result<Con, AllocError>
     ensures { IfOk result (λ new. con_tree new ≡ meant.query_of (con_tree tables) (con_tree results)) }
 {
-    let over = basic_at(alloc, symbols::SQL_QUERY, tables)?;
-    applied(alloc, over, results)
+    made_types::query(alloc, Ok(tables), Ok(results))
 }
 
 /// `sql_exp tables t`
 pub fn expression_of(alloc: Global, tables: Con, t: Con) -> Result<Con, AllocError>
     ensures { IfOk result (λ new. con_tree new ≡ meant.expression_of (con_tree tables) (con_tree t)) }
 {
-    let over = basic_at(alloc, symbols::SQL_EXP, tables)?;
-    applied(alloc, over, t)
+    let over = basic_at(alloc, symbols::SQL_EXP, Ok(tables));
+    made::applied(alloc, over, Ok(t))
 }
 
 /// `http_cookie t`
 pub fn cookie_of(alloc: Global, t: Con) -> Result<Con, AllocError>
     ensures { IfOk result (λ new. con_tree new ≡ meant.cookie_of (con_tree t)) }
 {
-    basic_at(alloc, symbols::HTTP_COOKIE, t)
+    basic_at(alloc, symbols::HTTP_COOKIE, Ok(t))
 }
 
 /// `sql_injectable t`
 pub fn injectable_of(alloc: Global, t: Con) -> Result<Con, AllocError>
     ensures { IfOk result (λ new. con_tree new ≡ meant.injectable_of (con_tree t)) }
 {
-    basic_at(alloc, symbols::SQL_INJECTABLE, t)
+    basic_at(alloc, symbols::SQL_INJECTABLE, Ok(t))
 }
 
 /// `$(results ++ map (fn f :: {Type} => $f) tables)`, a row of a query
 pub fn result_of(alloc: Global, tables: Con, results: Con) -> Result<Con, AllocError>
     ensures { IfOk result (λ new. con_tree new ≡ meant.result_of (con_tree tables) (con_tree results)) }
 {
-    let body = record(alloc, Con::Var(0))?;
-    let to_record = lambda(alloc, row_kind(alloc, Kind::Types)?, body)?;
-    let from = row_kind(alloc, Kind::Types)?;
-    let records = mapped(alloc, from, Kind::Types, to_record, tables)?;
-    let row = joined(alloc, results, records)?;
-    record(alloc, row)
+    made_types::query_row(alloc, Ok(tables), Ok(results))
 }
 
 /// `{Value : t, Secure : bool}`, what a cookie is set to
 pub fn setting_of(alloc: Global, t: Con) -> Result<Con, AllocError>
     ensures { IfOk result (λ new. con_tree new ≡ meant.setting_of (con_tree t)) }
 {
-    let value = Pair {
-        name: Con::Name(symbols::VALUE),
-        value: t,
-    };
-    let secure = Pair {
-        name: Con::Name(symbols::SECURE),
-        value: bool_type(),
-    };
-    let row = two_field_row(alloc, Kind::Types, value, secure)?;
-    record(alloc, row)
+    made_types::setting(alloc, Ok(t))
 }
 
 /// `xml context uses fills`: a tree that may stand in a context, in a form whose fields `uses` are
@@ -196,31 +169,28 @@ pub fn setting_of(alloc: Global, t: Con) -> Result<Con, AllocError>
 pub fn xml_of(alloc: Global, context: Con, uses: Con, fills: Con) -> Result<Con, AllocError>
     ensures { IfOk result (λ new. con_tree new ≡ meant.xml_of (con_tree context) (con_tree uses) (con_tree fills)) }
 {
-    let at_context = basic_at(alloc, symbols::XML, context)?;
-    let at_uses = applied(alloc, at_context, uses)?;
-    applied(alloc, at_uses, fills)
+    made_types::xml(alloc, Ok(context), Ok(uses), Ok(fills))
 }
 
 /// `[name]`, a row of one unit
 pub fn one_unit(alloc: Global, name: Sym) -> Result<Con, AllocError>
     ensures { IfOk result (λ new. con_tree new ≡ meant.unit_row (name.number ∷ [])) }
 {
-    field_row(alloc, Kind::Units, Con::Name(name), Con::UnitCon)
+    made::field_row(
+        alloc,
+        made::units_kind(),
+        made::label(name),
+        made::unit_con(),
+    )
 }
 
 /// `[name, other]`, a row of two units
 pub fn two_units(alloc: Global, name: Sym, other: Sym) -> Result<Con, AllocError>
     ensures { IfOk result (λ new. con_tree new ≡ meant.unit_row (name.number ∷ other.number ∷ [])) }
 {
-    let first = Pair {
-        name: Con::Name(name),
-        value: Con::UnitCon,
-    };
-    let second = Pair {
-        name: Con::Name(other),
-        value: Con::UnitCon,
-    };
-    two_field_row(alloc, Kind::Units, first, second)
+    let first = made::field(made::label(name), made::unit_con());
+    let second = made::field(made::label(other), made::unit_con());
+    made::two_field_row(alloc, made::units_kind(), first, second)
 }
 
 /// `xml [name] [] []`
@@ -228,10 +198,7 @@ fn plain_xml_at(alloc: Global, name: Sym) -> Result<Con, AllocError>
     ensures { IfOk result (λ new. con_tree new ≡
         meant.xml_of (meant.unit_row (name.number ∷ [])) meant.no_types meant.no_types) }
 {
-    let context = one_unit(alloc, name)?;
-    let uses = no_types(alloc)?;
-    let fills = no_types(alloc)?;
-    xml_of(alloc, context, uses, fills)
+    made_types::plain_xml(alloc, one_unit(alloc, name))
 }
 
 /// `page`, which is `xml [Html] [] []`
@@ -266,5 +233,5 @@ pub fn tr_type(alloc: Global) -> Result<Con, AllocError>
 pub fn for_type(alloc: Global, body: Con) -> Result<Con, AllocError>
     ensures { IfOk result (λ new. con_tree new ≡ meant.for_type (con_tree body)) }
 {
-    poly(alloc, true, Kind::Types, body)
+    made_types::each_type(alloc, Ok(body))
 }

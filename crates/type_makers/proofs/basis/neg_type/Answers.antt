@@ -1,0 +1,7 @@
+use Rattle.type_makers.proofs.basis.neg_type.Goals as goal
+
+pub returns : goal.returns
+returns c =
+    c.each_type.ensures _
+    (c.arrow.ensures _ _ (c.basic_at.ensures _ c.var-3.ensures)
+    (c.arrow-body.ensures _ _ c.var.ensures c.var-2.ensures))

@@ -1,0 +1,7 @@
+use Rattle.type_makers.proofs.queries.get_cookie_type.Goals as goal
+
+pub returns : goal.returns
+returns c =
+    c.each_type.ensures _
+    (c.arrow.ensures _ _ (c.basic_at-2.ensures _ c.var-2.ensures)
+    (c.transaction-gives.ensures _ (c.basic_at.ensures _ c.var.ensures)))

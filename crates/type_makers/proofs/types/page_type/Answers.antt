@@ -1,0 +1,4 @@
+use Rattle.type_makers.proofs.types.page_type.Goals as goal
+
+pub returns : goal.returns
+returns c = c.plain_xml_at.ensures
