@@ -26,12 +26,12 @@ coded_more f xs i x all key new h e l d =
     ap (λ k. k ++ codes f (drop (i + 1) xs)) d ∙ append_assoc key (f x) (codes f (drop (i + 1) xs))
     ∙ ap (λ ys. key ++ codes f ys) (sym (open_at xs i x e l)) ∙ h
 
--- no more, after the length
-pub coded_all : {X : Type 0} (f : X → List ℕ) (xs : List X) (i : ℕ) (old start key : List ℕ) (n : ℕ) →
-    key ++ codes f (drop i xs) ≡ start ++ codes f xs → length xs ≤ i → start ≡ old ++ n ∷ [] → key ≡ old ++ n ∷ codes f xs
-coded_all f xs i old start key n h l e =
+-- no more, after what comes before them
+pub coded_all : {X : Type 0} (f : X → List ℕ) (xs : List X) (i : ℕ) (old before start key : List ℕ) →
+    key ++ codes f (drop i xs) ≡ start ++ codes f xs → length xs ≤ i → start ≡ old ++ before → key ≡ old ++ (before ++ codes f xs)
+coded_all f xs i old before start key h l e =
     sym (append-nil key) ∙ ap (λ ys. key ++ codes f ys) (sym (drop_of_length-le xs l)) ∙ h
-    ∙ ap (λ s. s ++ codes f xs) e ∙ append_assoc old (n ∷ []) (codes f xs)
+    ∙ ap (λ s. s ++ codes f xs) e ∙ append_assoc old before (codes f xs)
 
 abbrev pub kind_numbers : Kind → List ℕ
 kind_numbers k = kind_code (kind_tree k)
@@ -50,11 +50,11 @@ kinds_listed : (ks : List Kind) → codes kind_numbers ks ≡ kinds_code (kinds_
 kinds_listed [] = refl
 kinds_listed (k ∷ ks) = ap (λ l. kind_numbers k ++ l) (kinds_listed ks)
 
-pub kinds_coded : (ks : Kinds) (old : List ℕ) → old ++ vec_len (out-Kinds ks).items ∷ codes kind_numbers (out-Kinds ks).items.items ≡ old ++ kinds_count (kinds_tree ks) ∷ kinds_code (kinds_tree ks)
-kinds_coded ks old =
+pub kinds_coded : (ks : Kinds) → vec_len (out-Kinds ks).items ∷ codes kind_numbers (out-Kinds ks).items.items ≡ kinds_count (kinds_tree ks) ∷ kinds_code (kinds_tree ks)
+kinds_coded ks =
     let xs = (out-Kinds ks).items in
     let n : vec_len xs ≡ kinds_count (kinds_tree ks) = let l : vec_len xs ≡ length xs.items = omega (arith, xs.ok.0) in l ∙ kinds_counted xs.items ∙ ap kinds_count (sym (kinds_tree_is ks)) in
-    ap (λ m. old ++ m ∷ codes kind_numbers xs.items) n ∙ ap (λ l. old ++ kinds_count (kinds_tree ks) ∷ l) (kinds_listed xs.items ∙ ap kinds_code (sym (kinds_tree_is ks)))
+    ap (λ m. m ∷ codes kind_numbers xs.items) n ∙ ap (λ l. kinds_count (kinds_tree ks) ∷ l) (kinds_listed xs.items ∙ ap kinds_code (sym (kinds_tree_is ks)))
 
 cons_counted : (cs : List Con) → length cs ≡ cons_count (cons_from (map con_tree cs))
 cons_counted [] = refl
@@ -64,11 +64,11 @@ cons_listed : (cs : List Con) → codes con_numbers cs ≡ cons_code (cons_from 
 cons_listed [] = refl
 cons_listed (c ∷ cs) = ap (λ l. con_numbers c ++ l) (cons_listed cs)
 
-pub cons_coded : (cs : Cons) (old : List ℕ) → old ++ vec_len cs.items ∷ codes con_numbers cs.items.items ≡ old ++ cons_count (cons_tree cs) ∷ cons_code (cons_tree cs)
-cons_coded cs old =
+pub cons_coded : (cs : Cons) → vec_len cs.items ∷ codes con_numbers cs.items.items ≡ cons_count (cons_tree cs) ∷ cons_code (cons_tree cs)
+cons_coded cs =
     let xs = cs.items in
     let n : vec_len xs ≡ cons_count (cons_tree cs) = let l : vec_len xs ≡ length xs.items = omega (arith, xs.ok.0) in l ∙ cons_counted xs.items ∙ ap cons_count (sym (cons_tree_is cs)) in
-    ap (λ m. old ++ m ∷ codes con_numbers xs.items) n ∙ ap (λ l. old ++ cons_count (cons_tree cs) ∷ l) (cons_listed xs.items ∙ ap cons_code (sym (cons_tree_is cs)))
+    ap (λ m. m ∷ codes con_numbers xs.items) n ∙ ap (λ l. cons_count (cons_tree cs) ∷ l) (cons_listed xs.items ∙ ap cons_code (sym (cons_tree_is cs)))
 
 pairs_counted : (ps : List Pair) → length ps ≡ pairs_count (pairs_from (map pair_tree ps))
 pairs_counted [] = refl
@@ -78,8 +78,8 @@ pairs_listed : (ps : List Pair) → codes pair_numbers ps ≡ pairs_code (pairs_
 pairs_listed [] = refl
 pairs_listed (p ∷ ps) = ap (λ l. pair_numbers p ++ l) (pairs_listed ps)
 
-pub pairs_coded : (ps : Pairs) (old : List ℕ) → old ++ vec_len (out-Pairs ps).items ∷ codes pair_numbers (out-Pairs ps).items.items ≡ old ++ pairs_count (pairs_tree ps) ∷ pairs_code (pairs_tree ps)
-pairs_coded ps old =
+pub pairs_coded : (ps : Pairs) → vec_len (out-Pairs ps).items ∷ codes pair_numbers (out-Pairs ps).items.items ≡ pairs_count (pairs_tree ps) ∷ pairs_code (pairs_tree ps)
+pairs_coded ps =
     let xs = (out-Pairs ps).items in
     let n : vec_len xs ≡ pairs_count (pairs_tree ps) = let l : vec_len xs ≡ length xs.items = omega (arith, xs.ok.0) in l ∙ pairs_counted xs.items ∙ ap pairs_count (sym (pairs_tree_is ps)) in
-    ap (λ m. old ++ m ∷ codes pair_numbers xs.items) n ∙ ap (λ l. old ++ pairs_count (pairs_tree ps) ∷ l) (pairs_listed xs.items ∙ ap pairs_code (sym (pairs_tree_is ps)))
+    ap (λ m. m ∷ codes pair_numbers xs.items) n ∙ ap (λ l. pairs_count (pairs_tree ps) ∷ l) (pairs_listed xs.items ∙ ap pairs_code (sym (pairs_tree_is ps)))

@@ -37,5 +37,7 @@ pub mod Reduced
 pub mod Deeper
 pub mod Depths
 pub mod NormalPieces
+pub mod Forms
+pub mod Overs
 pub mod Rising
 pub mod SettledForms

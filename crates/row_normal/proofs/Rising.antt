@@ -1,15 +1,8 @@
 -- Rows whose names are literals with rising numbers are in order.
-use Rattle.std.proofs.Common.{Box, Global, ◌≡◌, ℕ, suc, ◌==◌, ◌<◌, Bool, true, false, ◌&&◌, if◌then◌else◌, nat_lt, List, [], ◌∷◌, Ordering, Less, Equal, Greater, is_lt, nat_cmp, refl, ap, sym, ◌∙◌, arith}
+use Rattle.std.proofs.Common.{◌≡◌, ℕ, suc, ◌==◌, ◌<◌, Bool, true, false, ◌&&◌, if◌then◌else◌, nat_lt, List, [], ◌∷◌, Ordering, Less, Equal, Greater, is_lt, nat_cmp, refl, ap, sym, ◌∙◌, arith}
 use Rattle.std.specs.Ordering.{ordering_then}
 use Rattle.std.specs.Cmp.Lexicographic.{slice_cmp}
-use Rattle.con_terms.specs.Trees.{Kd, Cn, Cns, name, row, Prs, no_pairs, pair}
-use Rattle.con_terms.specs.View.{con_tree, kind_tree, pairs_tree, con_step, cons_step, pair_step, pairs_step}
-use Rattle.con_terms.specs.declared.kind.Kind.{Kind}
-use Rattle.con_terms.specs.declared.con.Con.TheVariants as form
-use Rattle.con_terms.specs.declared.con.Pairs.{Pairs}
-use Rattle.con_terms.specs.declared.con.Con.TheOpen.{Con-F}
-use Rattle.con_terms.specs.declared.con.Con.TheViews.{rolls-Row}
-use Rattle.con_terms.specs.declared.con.Con.TheFolds.{fold-roll-Con}
+use Rattle.con_terms.specs.Trees.{Kd, Cn, name, row, Prs, no_pairs, pair}
 use Rattle.con_terms.proofs.SameKinds.{kd_eq_refl}
 use Rattle.row_normal.specs.Ordered.{con_code, before, insert, sorted, leading_fields, after_leading, glued, joined, ordered, field_pieces}
 use Rattle.row_normal.specs.Pieces.{written_fields}
@@ -100,7 +93,7 @@ ordered_rise no_pairs bound h = refl
 ordered_rise (pair n v ps) bound h =
     let (p, q) = both_from (comes_next bound n) (rise ps (next_bound n)) h in still_rises bound n ps p (ordered_rise ps (next_bound n) q)
 
-as_written : (k : Kd) (ps : Prs) → field_pieces k ps ≡ written_fields k (ordered_pairs ps)
+pub as_written : (k : Kd) (ps : Prs) → field_pieces k ps ≡ written_fields k (ordered_pairs ps)
 as_written k no_pairs = refl
 as_written k (pair n v ps) = ap (λ l. row k (pair (ordered n) (ordered v) no_pairs) ∷ l) (as_written k ps)
 
@@ -112,13 +105,10 @@ rising_order k ps h =
     ∙ ap (λ l. joined k (glued l)) (fields_sorted k (ordered_pairs ps) 0 r)
     ∙ one_literal k (ordered_pairs ps) 0 r
 
--- and so it is with a row that is built anew
-pub rising_row : (k l : Kd) (ps qs rs : Prs) (b : Bool) (whole c : Cn) → whole ≡ row k ps → l ≡ k → qs ≡ ps → b ≡ rise qs 0 → b ≡ true → rs ≡ ordered_pairs qs →
-    c ≡ row l rs → c ≡ ordered whole
-rising_row k l ps qs rs b whole c w j e r t f h =
-    h ∙ ap (λ m. row m rs) j ∙ ap (row k) (f ∙ ap ordered_pairs e)
-    ∙ sym (rising_order k ps (ap (λ z. rise z 0) (sym e) ∙ sym r ∙ t)) ∙ ap ordered (sym w)
+-- so the literal with its values in order is in order
+pub stays_literal : (k : Kd) (ps qs : Prs) (b : Bool) → qs ≡ ordered_pairs ps → b ≡ rise ps 0 → b ≡ true → row k qs ≡ ordered (row k ps)
+stays_literal k ps qs b e r t = ap (row k) e ∙ sym (rising_order k ps (sym r ∙ t))
 
--- what a row literal is
-pub row_form : (k : Box Kind Global) (ps : Pairs) → con_tree (form.Row k ps) ≡ row (kind_tree k.value) (pairs_tree ps)
-row_form k ps = ap con_tree (sym (rolls-Row k ps)) ∙ fold-roll-Con Cn Cns (Cn × Cn) Prs con_step cons_step pair_step pairs_step (Con-F.Row k ps)
+-- and any other literal is its fields, which are in order, put in order
+pub fields_apart : (k : Kd) (ps qs : Prs) → qs ≡ ordered_pairs ps → joined k (glued (sorted (written_fields k qs))) ≡ ordered (row k ps)
+fields_apart k ps qs e = ap (λ rs. joined k (glued (sorted (written_fields k rs)))) e ∙ ap (λ l. joined k (glued (sorted l))) (sym (as_written k ps))

@@ -7,6 +7,7 @@ ghost use Rattle.con_terms.specs.View.{con_tree, kind_tree, pairs_tree};
 ghost use Rattle.row_normal.specs.Glue.{joined_then, literal_of, literal_then, pairs_then, piece_tree};
 ghost use Rattle.row_normal.specs.Ordered.{glued, joined as joined_by, sorted};
 
+use crate::build::{self, boxed};
 use crate::code::literal_name;
 use crate::piece::Piece;
 use con_terms::con::{Con, Pairs};
@@ -55,7 +56,7 @@ pub fn concatenated(alloc: Global, kind: Kind, pieces: Vec<Con>) -> Result<Con, 
 fn cat_of(alloc: Global, a: Con, b: Con) -> Result<Con, AllocError>
     ensures { IfOk result (λ c. con_tree c ≡ cat (con_tree a) (con_tree b)) }
 {
-    Ok(Con::Cat(Box::new(alloc, a)?, Box::new(alloc, b)?))
+    build::cat_of(boxed(alloc, Ok(a)), boxed(alloc, Ok(b)))
 }
 
 /// The pieces, of which leading fields with literal names and one kind are one literal.

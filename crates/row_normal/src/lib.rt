@@ -3,6 +3,7 @@
 //! What the normal form is stands in `specs/`, step by step; that it is equal to what it comes from is proved.
 #![tactic(auto)]
 
+mod build;
 mod code;
 mod eta;
 mod finish;
