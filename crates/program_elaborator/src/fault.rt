@@ -1,4 +1,7 @@
 //! Why modules aren't elaborated.
+ghost use Rattle.std.specs.Prelude.{◌≡◌};
+ghost use Rattle.name_scopes.specs.declared.fault.ElabFault.TheVariants as elab;
+
 use con_terms::symbol::{Sym, SymTable};
 use name_scopes::{ElabFault, Tops};
 use std::alloc::{AllocError, Global};
@@ -22,7 +25,9 @@ pub fn texts_of(alloc: Global, names: &SymTable) -> Result<Texts, AllocError> {
 }
 
 /// The refusal for want of memory, which has no symbols.
-pub fn memory(alloc: Global) -> Refusal {
+pub fn memory(alloc: Global) -> Refusal
+    ensures { result.fault ≡ elab.Memory }
+{
     Refusal {
         fault: ElabFault::Memory,
         names: Texts::new(alloc),

@@ -2,6 +2,8 @@
 //! modules, with what each may name in scope, over any elaboration of terms.
 #![tactic(auto)]
 
+mod causes;
+mod copies;
 pub mod declarations;
 pub mod fault;
 pub mod folders;

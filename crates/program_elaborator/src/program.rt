@@ -1,4 +1,14 @@
-//! Whole programs.
+//! Whole programs. A program is given where it is what its source says: `is_source` of the crate `source_terms`. A refusal
+//! is told where it has its cause in the source.
+ghost use Rattle.std.specs.Prelude.{◌≡◌, true, map, IfOk, IfErr};
+ghost use Rattle.core_terms.specs.Lists.{foreigns_view, rules_view};
+ghost use Rattle.core_terms.specs.View.{program_view};
+ghost use Rattle.plain_tree.specs.View.{plain_view};
+ghost use Rattle.program_elaborator.specs.Causes.{is_caused};
+ghost use Rattle.source_terms.specs.Programs.{is_source as says};
+
+use crate::causes::caused;
+use crate::copies::{copy_foreigns, copy_rules, copy_texts};
 use crate::declarations::of_decl;
 use crate::fault::{Refusal, memory, texts_of};
 use crate::folders::Done;
@@ -7,6 +17,7 @@ use crate::texts::all_texts;
 use core_terms::{Decls, Exports, Foreigns, Program, Rules};
 use name_scopes::Tops;
 use plain_tree::Plain;
+use source_terms::is_source;
 use std::alloc::{AllocError, Global};
 use table_rows::{Text, Texts};
 
@@ -24,39 +35,74 @@ pub struct Source {
     pub foreign: Foreigns,
 }
 
-/// The explicit program that modules are, where their terms are elaborated so, or why they aren't.
+/// The explicit program that modules are, where their terms are elaborated so, or why they aren't. The program is what
+/// the modules say, with their names resolved and nothing left out. A name that is told as unbound stands where it is
+/// told and isn't in scope there, and the sides of a mismatch differ.
 pub fn elaborate_with<T: Terms + Drop>(
     alloc: Global,
     terms: &T,
     source: Source,
+) -> Result<Program, Refusal>
+    ensures source { IfOk result (λ p. says source.modules (map plain_view source.trees.items) source.exported
+        (rules_view source.rules) (foreigns_view source.foreign) (program_view p) ≡ true) }
+    ensures cause { IfErr result (λ r. is_caused source.modules (map plain_view source.trees.items)
+        (foreigns_view source.foreign) r.fault ≡ true) }
+{
+    match elaborated(alloc, terms, &source) {
+        Ok(program) => held(alloc, &source, program),
+        Err(refusal) => Err(caused(alloc, &source, refusal)),
+    }
+}
+
+/// A program, where it is what its source says. One that isn't counts as want of memory.
+fn held(alloc: Global, source: &Source, program: Program) -> Result<Program, Refusal>
+    ensures source { IfOk result (λ p. says source.now.modules (map plain_view source.now.trees.items)
+        source.now.exported (rules_view source.now.rules) (foreigns_view source.now.foreign) (program_view p) ≡ true) }
+    ensures cause { IfErr result (λ r. is_caused source.now.modules (map plain_view source.now.trees.items)
+        (foreigns_view source.now.foreign) r.fault ≡ true) }
+{
+    let read = is_source(
+        alloc,
+        &source.modules,
+        source.trees.as_slice(),
+        &source.exported,
+        &source.rules,
+        &source.foreign,
+        &program,
+    );
+    match read {
+        Ok(true) => Ok(program),
+        _ => Err(memory(alloc)),
+    }
+}
+
+/// The program that inference makes of modules.
+fn elaborated<T: Terms + Drop>(
+    alloc: Global,
+    terms: &T,
+    source: &Source,
 ) -> Result<Program, Refusal> {
-    let Source {
-        modules,
-        trees,
-        exported,
-        rules,
-        foreign,
-    } = source;
-    let Ok(tops) = first_tops(alloc, &trees, foreign) else {
+    let Ok(tops) = first_tops(alloc, &source.trees, &source.foreign) else {
         return Err(memory(alloc));
     };
     let mut whole = Done {
         tops,
         made: Decls::new(alloc),
     };
-    for i in 0..trees.len() {
-        whole = of_module(alloc, terms, whole, i, &modules, &trees[i])?;
+    for i in 0..source.trees.len() {
+        whole = of_module(alloc, terms, whole, i, &source.modules, &source.trees[i])?;
     }
     let Done { tops, made } = whole;
-    match finished(alloc, tops, made, modules, exported, rules) {
+    match finished(alloc, tops, made, source) {
         Ok(program) => Ok(program),
         Err(_) => Err(memory(alloc)),
     }
 }
 
 /// What is declared before all modules.
-fn first_tops(alloc: Global, trees: &Vec<Plain>, foreign: Foreigns) -> Result<Tops, AllocError> {
+fn first_tops(alloc: Global, trees: &Vec<Plain>, foreign: &Foreigns) -> Result<Tops, AllocError> {
     let names = all_texts(alloc, trees)?;
+    let foreign = copy_foreigns(alloc, foreign)?;
     Tops::new(alloc, names, foreign)
 }
 
@@ -139,12 +185,12 @@ fn finished(
     alloc: Global,
     tops: Tops,
     decls: Decls,
-    modules: Texts,
-    exported: Option<Texts>,
-    rules: Rules,
+    source: &Source,
 ) -> Result<Program, AllocError> {
-    let exports = exports(alloc, &tops, &exported)?;
+    let exports = exports(alloc, &tops, &source.exported)?;
     let names = texts_of(alloc, &tops.names)?;
+    let modules = copy_texts(alloc, &source.modules)?;
+    let rules = copy_rules(alloc, &source.rules)?;
     let (foreign, folders) = tops.into_parts();
     Ok(Program {
         names,

@@ -1,0 +1,43 @@
+use Rattle.std.proofs.Common.{◌≢◌, ◌<◌, ◌≤◌, ◌&&◌, length, ap, sym, ◌∙◌, arith}
+use Rattle.core_terms.specs.declared.exp.Form.TheViews.{out-Fields}
+use Rattle.plain_tree.specs.declared.exp.Form.TheViews as plain
+use Rattle.source_names.specs.View.{scope_view}
+use Rattle.source_terms.proofs.Listed.{fields_whole}
+use Rattle.source_terms.proofs.Pairs.{whole_begins, whole_differs, whole_fails, whole_goes_on, whole_ends}
+use Rattle.source_terms.proofs.terms.are_fields.Goals as goal
+
+pub loop-i-init : goal.loop-i-init
+loop-i-init c = whole_begins _ _ _ (fields_whole (scope_view c.args.s.now) c.args.fs.now c.args.gs.now)
+
+pub returns-then-len : goal.returns-then-len
+returns-then-len c =
+    let xs = (plain.out-Fields c.args.fs.now).items in
+    let ys = (out-Fields c.args.gs.now).items in
+    let h : length xs.items ≢ length ys.items = (λ e. c.if-len.true (omega (arith, xs.ok.0, ys.ok.0))) in
+    whole_differs _ xs.items ys.items _ _ h (fields_whole (scope_view c.args.s.now) c.args.fs.now c.args.gs.now)
+
+pub returns-then-not-branch : goal.returns-then-not-branch
+returns-then-not-branch c =
+    let xs = (plain.out-Fields c.args.fs.now).items in
+    let ys = (out-Fields c.args.gs.now).items in
+    let one : c.loop-i.i < length xs.items = omega (arith, xs.ok.0) in
+    let other : c.loop-i.i < length ys.items = omega (arith, xs.ok.0, ys.ok.0) in
+    whole_fails _ xs.items ys.items c.loop-i.i _ _ _ _ _ _ one other c.index.ensures c.index-in-loop-i.ensures
+    c.loop-i.invariant c.if-not-branch.true c.in_ok-is_field.ensures
+
+pub loop-i-preserved : goal.loop-i-preserved
+loop-i-preserved c =
+    let xs = (plain.out-Fields c.args.fs.now).items in
+    let ys = (out-Fields c.args.gs.now).items in
+    let one : c.loop-i.i < length xs.items = omega (arith, xs.ok.0) in
+    let other : c.loop-i.i < length ys.items = omega (arith, xs.ok.0, ys.ok.0) in
+    whole_goes_on _ xs.items ys.items c.loop-i.i _ _ _ _ _ _ one other c.index.ensures c.index-in-loop-i.ensures
+    c.loop-i.invariant c.if-not-branch.false c.in_ok-is_field.ensures
+
+pub returns : goal.returns
+returns c =
+    let xs = (plain.out-Fields c.args.fs.now).items in
+    let ys = (out-Fields c.args.gs.now).items in
+    let one : length xs.items ≤ c.loop-i.i = omega (arith, xs.ok.0) in
+    let other : length ys.items ≤ c.loop-i.i = omega (arith, xs.ok.0, ys.ok.0) in
+    whole_ends _ xs.items ys.items c.loop-i.i _ _ one other c.loop-i.invariant

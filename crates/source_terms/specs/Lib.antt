@@ -1,0 +1,12 @@
+pub mod Alike
+pub mod Declarations
+pub mod Leaves
+pub mod Left
+pub mod Parts
+pub mod Patterns
+pub mod Programs
+pub mod Readings
+pub mod Selected
+pub mod SourceLaw
+pub mod Tasks
+pub mod Terms
