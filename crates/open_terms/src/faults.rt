@@ -1,7 +1,7 @@
 //! What is told of terms that have no type.
 use crate::env::Env;
 use crate::memory::on_heap;
-use crate::types::normal_of;
+use crate::types::boxed_normal;
 use con_terms::con::{Con, Pairs};
 use con_terms::kind::Kind;
 use con_terms::place::Place;
@@ -10,8 +10,36 @@ use plain_tree::Path;
 use std::alloc::{AllocError, Global};
 use table_rows::Text;
 use type_faults::fault::{Fault, Types};
-use type_makers::forms::{arrow, empty_row, guarded, poly, record};
+use type_makers::forms::{arrow, empty_row, poly, record};
 use type_makers::types::no_types;
+
+/// The fault that a constructor is too large.
+pub fn too_large(at: Place) -> ElabFault {
+    ElabFault::Told(Fault::TooLarge(at))
+}
+
+/// The fault that these two types differ.
+fn told(alloc: Global, env: &Env, at: Place, types: Box<Types>) -> Result<ElabFault, AllocError> {
+    let called = env.scope.called(alloc)?;
+    Ok(ElabFault::Told(Fault::Mismatch(at, called, types)))
+}
+
+/// Two types on the heap that differ.
+pub fn boxed_mismatch(
+    alloc: Global,
+    env: &Env,
+    at: Place,
+    wanted: Box<Con>,
+    found: Box<Con>,
+) -> Result<ElabFault, AllocError> {
+    mismatch(
+        alloc,
+        env,
+        at,
+        Box::into_inner(wanted),
+        Box::into_inner(found),
+    )
+}
 
 /// Two types that differ.
 #[inline(never)]
@@ -22,9 +50,36 @@ pub fn mismatch(
     wanted: Con,
     found: Con,
 ) -> Result<ElabFault, AllocError> {
-    let called = env.scope.called(alloc)?;
     let types = on_heap(alloc, Types { wanted, found })?;
-    Ok(ElabFault::Told(Fault::Mismatch(at, called, types)))
+    told(alloc, env, at, types)
+}
+
+/// A type that isn't of a form on the heap, which stands as what is wanted.
+pub fn boxed_not_of(
+    alloc: Global,
+    env: &Env,
+    at: Place,
+    wanted: Box<Con>,
+    found: &Con,
+) -> Result<ElabFault, AllocError> {
+    match boxed_normal(alloc, found)? {
+        None => Ok(too_large(at)),
+        Some(found) => boxed_mismatch(alloc, env, at, wanted, found),
+    }
+}
+
+/// A wanted type that isn't of a form on the heap, which stands as what is found.
+fn boxed_not_wanted(
+    alloc: Global,
+    env: &Env,
+    at: Place,
+    wanted: &Con,
+    found: Box<Con>,
+) -> Result<ElabFault, AllocError> {
+    match boxed_normal(alloc, wanted)? {
+        None => Ok(too_large(at)),
+        Some(wanted) => boxed_mismatch(alloc, env, at, wanted, found),
+    }
 }
 
 /// A type that isn't of a form, which stands as what is wanted.
@@ -36,10 +91,8 @@ pub fn not_of(
     wanted: Con,
     found: &Con,
 ) -> Result<ElabFault, AllocError> {
-    match normal_of(alloc, found)? {
-        None => Ok(ElabFault::Told(Fault::TooLarge(at))),
-        Some(found) => mismatch(alloc, env, at, wanted, found),
-    }
+    let wanted = on_heap(alloc, wanted)?;
+    boxed_not_of(alloc, env, at, wanted, found)
 }
 
 /// A wanted type that isn't of a form, which stands as what is found.
@@ -51,10 +104,8 @@ pub fn not_wanted(
     wanted: &Con,
     found: Con,
 ) -> Result<ElabFault, AllocError> {
-    match normal_of(alloc, wanted)? {
-        None => Ok(ElabFault::Told(Fault::TooLarge(at))),
-        Some(wanted) => mismatch(alloc, env, at, wanted, found),
-    }
+    let found = on_heap(alloc, found)?;
+    boxed_not_wanted(alloc, env, at, wanted, found)
 }
 
 /// What stands for the parts of a function's type that nothing tells.
@@ -67,11 +118,17 @@ pub fn any_poly(alloc: Global) -> Result<Con, AllocError> {
     poly(alloc, false, Kind::Types, Con::UnitCon)
 }
 
+/// A row without fields, on the heap.
+fn boxed_empty(alloc: Global) -> Result<Box<Con>, AllocError> {
+    on_heap(alloc, empty_row(alloc, Kind::Units)?)
+}
+
 /// What stands for a type of a function of a guard's proof.
 pub fn any_guarded(alloc: Global) -> Result<Con, AllocError> {
-    let left = empty_row(alloc, Kind::Units)?;
-    let right = empty_row(alloc, Kind::Units)?;
-    guarded(alloc, left, right, Con::UnitCon)
+    let left = boxed_empty(alloc)?;
+    let right = boxed_empty(alloc)?;
+    let body = on_heap(alloc, Con::UnitCon)?;
+    Ok(Con::Guarded(left, right, body))
 }
 
 /// What stands for the type of a record.

@@ -1,15 +1,16 @@
 //! What a call begins with: names, constructors of datatypes, values that sugar stands for.
-use crate::env::Env;
+use crate::env::{Env, Side};
 use crate::faults::unbound;
-use crate::memory::on_heap;
+use crate::memory::{maybe_on_heap, on_heap};
 use con_terms::con::Con;
 use con_terms::kind::{Kind, copy_kind};
 use con_terms::place::Place;
 use core_terms::{BasisName, Exp, Form, Sigil};
 use kind_rules::flaw::Differing;
 use name_scopes::{ElabFault, KnownBuilder, KnownValue, ValueName};
-use plain_tree::{Basis, Infix, Path};
+use plain_tree::{Basis, BasisBuilder, Infix, Path};
 use std::alloc::{AllocError, Global};
+use std::mem::replace;
 use type_faults::fault::Fault;
 
 /// What a call begins with, and its type.
@@ -69,46 +70,64 @@ fn is_unbuilt(name: ValueName) -> bool {
     }
 }
 
+/// The term that names a value that has a type and rules; else the fault that it hasn't.
+fn value_node(alloc: Global, place: Place, known: &KnownValue) -> Result<Box<Exp>, ElabFault> {
+    match &known.con {
+        Con::UnitCon => return Err(ElabFault::Unsolved(place)),
+        _ => {}
+    }
+    if is_unbuilt(known.name) {
+        return Err(ElabFault::NotBuilt(place));
+    }
+    match form_of(known.name) {
+        None => Err(ElabFault::Unsolved(place)),
+        Some(form) => Ok(node(alloc, place, form)?),
+    }
+}
+
+/// A term with the type of a value.
+fn value_head(
+    alloc: Global,
+    exp: Box<Exp>,
+    known: Box<KnownValue>,
+    sigil: Sigil,
+) -> Result<Box<Head>, AllocError> {
+    let KnownValue { con, .. } = Box::into_inner(known);
+    on_heap(alloc, Head { exp, con, sigil })
+}
+
 /// A value with its type. That of a function in its own group may be open.
 fn of_value(
     alloc: Global,
     place: Place,
-    known: KnownValue,
+    known: Box<KnownValue>,
     sigil: Sigil,
-) -> Result<Head, ElabFault> {
-    let KnownValue { name, con } = known;
-    match con {
-        Con::UnitCon => return Err(ElabFault::Unsolved(place)),
-        _ => {}
-    }
-    if is_unbuilt(name) {
-        return Err(ElabFault::NotBuilt(place));
-    }
-    match form_of(name) {
-        None => Err(ElabFault::Unsolved(place)),
-        Some(form) => Ok(Head {
-            exp: node(alloc, place, form)?,
-            con,
-            sigil,
-        }),
-    }
+) -> Result<Box<Head>, ElabFault> {
+    let exp = value_node(alloc, place, &known)?;
+    Ok(value_head(alloc, exp, known, sigil)?)
+}
+
+/// A term with the type of a constructor of a datatype.
+fn builder_head(
+    alloc: Global,
+    exp: Box<Exp>,
+    known: Box<KnownBuilder>,
+    sigil: Sigil,
+) -> Result<Box<Head>, AllocError> {
+    let mut known = known;
+    let con = replace(&mut known.con, Con::UnitCon);
+    on_heap(alloc, Head { exp, con, sigil })
 }
 
 /// A constructor of a datatype with its type.
 fn of_builder(
     alloc: Global,
     place: Place,
-    known: KnownBuilder,
+    known: Box<KnownBuilder>,
     sigil: Sigil,
-) -> Result<Head, AllocError> {
-    let KnownBuilder {
-        datatype,
-        index,
-        con,
-        ..
-    } = known;
-    let exp = node(alloc, place, Form::Build(datatype, index))?;
-    Ok(Head { exp, con, sigil })
+) -> Result<Box<Head>, AllocError> {
+    let exp = node(alloc, place, Form::Build(known.datatype, known.index))?;
+    builder_head(alloc, exp, known, sigil)
 }
 
 /// The kind of the values of the rows that functions of a kind take; none where they take no rows.
@@ -122,20 +141,86 @@ fn row_values(functions: &Kind) -> Option<&Kind> {
     }
 }
 
+/// A copy of a kind, on the heap.
+fn boxed_kind(alloc: Global, kind: &Kind) -> Result<Box<Kind>, AllocError> {
+    on_heap(alloc, copy_kind(alloc, kind)?)
+}
+
+/// The kind of functions that take rows of types and give a type, on the heap.
+fn of_rows(alloc: Global) -> Result<Box<Kind>, AllocError> {
+    let types = on_heap(alloc, Kind::Types)?;
+    let row = on_heap(alloc, Kind::Row(types))?;
+    let gives = on_heap(alloc, Kind::Types)?;
+    on_heap(alloc, Kind::Arrow(row, gives))
+}
+
+/// Two kinds that differ.
+fn differing(
+    alloc: Global,
+    wanted: Box<Kind>,
+    found: Box<Kind>,
+) -> Result<Box<Differing>, AllocError> {
+    let wanted = Box::into_inner(wanted);
+    let found = Box::into_inner(found);
+    on_heap(alloc, Differing { wanted, found })
+}
+
 /// The fault that a kind isn't that of functions of rows.
-fn no_rows(alloc: Global, place: Place, found: Kind) -> Result<ElabFault, AllocError> {
-    let row = Kind::Row(on_heap(alloc, Kind::Types)?);
-    let wanted = Kind::Arrow(on_heap(alloc, row)?, on_heap(alloc, Kind::Types)?);
-    let differing = on_heap(alloc, Differing { wanted, found })?;
-    Ok(ElabFault::Told(Fault::KindMismatch(place, differing)))
+fn no_rows(alloc: Global, place: Place, found: Box<Kind>) -> Result<ElabFault, AllocError> {
+    let wanted = of_rows(alloc)?;
+    let kinds = differing(alloc, wanted, found)?;
+    Ok(ElabFault::Told(Fault::KindMismatch(place, kinds)))
 }
 
 /// The kind of the values of the rows over which `fold` goes, by the kind of its first type argument.
-fn fold_kind(alloc: Global, place: Place, kind: &Kind) -> Result<Kind, ElabFault> {
+fn fold_kind(alloc: Global, place: Place, kind: &Kind) -> Result<Box<Kind>, ElabFault> {
     match row_values(kind) {
-        Some(values) => Ok(copy_kind(alloc, values)?),
-        None => Err(no_rows(alloc, place, copy_kind(alloc, kind)?)?),
+        Some(values) => Ok(boxed_kind(alloc, values)?),
+        None => Err(no_rows(alloc, place, boxed_kind(alloc, kind)?)?),
     }
+}
+
+/// The kind of a constructor, on the heap.
+fn kind_beside(alloc: Global, side: Side) -> Result<Box<Kind>, AllocError> {
+    let Side { kind, .. } = side;
+    on_heap(alloc, kind)
+}
+
+/// The kind of the values of the rows over which `fold` goes, by its first type argument.
+fn folded_kind(
+    alloc: Global,
+    env: &Env,
+    at: u32,
+    c: &plain_tree::Con,
+    room: u32,
+) -> Result<Box<Kind>, ElabFault> {
+    let kind = kind_beside(alloc, env.con_and_kind(alloc, c, room)?)?;
+    fold_kind(alloc, env.place(at), &kind)
+}
+
+/// `fold` with this type, over rows whose values have this kind.
+fn fold_head(
+    alloc: Global,
+    place: Place,
+    kind: Box<Kind>,
+    con: Box<Con>,
+    sigil: Sigil,
+) -> Result<Box<Head>, AllocError> {
+    let exp = node(alloc, place, Form::Fold(Box::into_inner(kind)))?;
+    let con = Box::into_inner(con);
+    on_heap(alloc, Head { exp, con, sigil })
+}
+
+/// `fold`, over rows whose values have this kind.
+fn fold_over(
+    alloc: Global,
+    env: &Env,
+    place: Place,
+    kind: Box<Kind>,
+    sigil: Sigil,
+) -> Result<Box<Head>, ElabFault> {
+    let con = on_heap(alloc, env.scope.fold(alloc, &kind)?)?;
+    Ok(fold_head(alloc, place, kind, con, sigil)?)
 }
 
 /// `fold`, over rows of the kind that its first type argument tells.
@@ -146,41 +231,88 @@ fn of_fold(
     first: Option<&plain_tree::Item>,
     sigil: Sigil,
     room: u32,
-) -> Result<Head, ElabFault> {
+) -> Result<Box<Head>, ElabFault> {
     match first {
         Some(plain_tree::Item::Con(at, c)) => {
-            let side = env.con_and_kind(alloc, c, room)?;
-            let kind = fold_kind(alloc, env.place(*at), &side.kind)?;
-            let con = env.scope.fold(alloc, &kind)?;
-            Ok(Head {
-                exp: node(alloc, place, Form::Fold(kind))?,
-                con,
-                sigil,
-            })
+            let kind = folded_kind(alloc, env, *at, c, room)?;
+            fold_over(alloc, env, place, kind, sigil)
         }
         _ => Err(ElabFault::Unsolved(place)),
     }
 }
 
-/// A value by its name in the source.
+/// The value of a path, on the heap, where there is one.
+fn value_of_path(
+    alloc: Global,
+    env: &Env,
+    path: &Path,
+) -> Result<Option<Box<KnownValue>>, AllocError> {
+    maybe_on_heap(alloc, env.scope.value(alloc, path)?)
+}
+
+/// The constructor of a datatype of a path, on the heap, where there is one.
+fn builder_of_path(
+    alloc: Global,
+    env: &Env,
+    path: &Path,
+) -> Result<Option<Box<KnownBuilder>>, AllocError> {
+    maybe_on_heap(alloc, env.scope.builder(alloc, path)?)
+}
+
+/// A value by its name in the source; none where that is `fold`.
 fn of_path(
     alloc: Global,
     env: &Env,
     place: Place,
     sigil: Sigil,
     path: &Path,
-    first: Option<&plain_tree::Item>,
-    room: u32,
-) -> Result<Head, ElabFault> {
-    match env.scope.value(alloc, path)? {
+) -> Result<Option<Box<Head>>, ElabFault> {
+    match value_of_path(alloc, env, path)? {
         None => Err(unbound(alloc, place, path)?),
         Some(known) => {
             if known.name == ValueName::Fold {
-                return of_fold(alloc, env, place, first, sigil, room);
+                Ok(None)
+            } else {
+                Ok(Some(of_value(alloc, place, known, sigil)?))
             }
-            of_value(alloc, place, known, sigil)
         }
     }
+}
+
+/// A constructor of a datatype by its name in the source.
+fn of_builder_path(
+    alloc: Global,
+    env: &Env,
+    place: Place,
+    sigil: Sigil,
+    path: &Path,
+) -> Result<Box<Head>, ElabFault> {
+    match builder_of_path(alloc, env, path)? {
+        None => Err(unbound(alloc, place, path)?),
+        Some(known) => Ok(of_builder(alloc, place, known, sigil)?),
+    }
+}
+
+/// A value of the basis, on the heap.
+fn boxed_basis(
+    alloc: Global,
+    env: &Env,
+    place: Place,
+    name: BasisName,
+) -> Result<Box<Head>, ElabFault> {
+    let known = on_heap(alloc, env.scope.basis(alloc, name)?)?;
+    of_value(alloc, place, known, Sigil::Plain)
+}
+
+/// A constructor that every program has.
+fn of_basis_builder(
+    alloc: Global,
+    env: &Env,
+    place: Place,
+    builder: BasisBuilder,
+) -> Result<Box<Head>, AllocError> {
+    let known = on_heap(alloc, env.scope.basis_builder(alloc, builder)?)?;
+    of_builder(alloc, place, known, Sigil::Plain)
 }
 
 /// A value of the basis.
@@ -190,12 +322,12 @@ pub fn of_basis(
     place: Place,
     name: BasisName,
 ) -> Result<Head, ElabFault> {
-    let known = env.scope.basis(alloc, name)?;
-    of_value(alloc, place, known, Sigil::Plain)
+    let head = boxed_basis(alloc, env, place, name)?;
+    Ok(Box::into_inner(head))
 }
 
 /// The value of the basis that sugar stands for.
-fn of_sugar(alloc: Global, env: &Env, place: Place, basis: Basis) -> Result<Head, ElabFault> {
+fn of_sugar(alloc: Global, env: &Env, place: Place, basis: Basis) -> Result<Box<Head>, ElabFault> {
     let name = match basis {
         Basis::Bind => BasisName::Bind,
         Basis::Txt => BasisName::Txt,
@@ -204,12 +336,9 @@ fn of_sugar(alloc: Global, env: &Env, place: Place, basis: Basis) -> Result<Head
         Basis::Ne => BasisName::Ne,
         Basis::Lt => BasisName::Lt,
         Basis::Le => BasisName::Le,
-        Basis::Builder(b) => {
-            let known = env.scope.basis_builder(alloc, b)?;
-            return Ok(of_builder(alloc, place, known, Sigil::Plain)?);
-        }
+        Basis::Builder(b) => return Ok(of_basis_builder(alloc, env, place, b)?),
     };
-    of_basis(alloc, env, place, name)
+    boxed_basis(alloc, env, place, name)
 }
 
 /// The value of the basis that an operator of a chain stands for.
@@ -235,16 +364,19 @@ pub fn head_of_call(
     room: u32,
 ) -> Result<Option<Head>, ElabFault> {
     let place = env.place(e.at);
-    match &e.form {
+    let head = match &e.form {
         plain_tree::Form::Name(sigil, path) => {
-            let head = of_path(alloc, env, place, sigil_of(*sigil), path, first, room)?;
-            Ok(Some(head))
+            let sigil = sigil_of(*sigil);
+            match of_path(alloc, env, place, sigil, path)? {
+                Some(head) => head,
+                None => of_fold(alloc, env, place, first, sigil, room)?,
+            }
         }
-        plain_tree::Form::Builder(sigil, path) => match env.scope.builder(alloc, path)? {
-            None => Err(unbound(alloc, place, path)?),
-            Some(known) => Ok(Some(of_builder(alloc, place, known, sigil_of(*sigil))?)),
-        },
-        plain_tree::Form::Basis(basis) => Ok(Some(of_sugar(alloc, env, place, *basis)?)),
-        _ => Ok(None),
-    }
+        plain_tree::Form::Builder(sigil, path) => {
+            of_builder_path(alloc, env, place, sigil_of(*sigil), path)?
+        }
+        plain_tree::Form::Basis(basis) => of_sugar(alloc, env, place, *basis)?,
+        _ => return Ok(None),
+    };
+    Ok(Some(Box::into_inner(head)))
 }

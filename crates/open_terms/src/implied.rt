@@ -1,15 +1,15 @@
 //! Folders and instances, which calls insert.
 use crate::env::Env;
 use crate::heads::form_of;
-use crate::memory::on_heap;
-use crate::types::{head_of, reduced};
+use crate::memory::{maybe_on_heap, on_heap};
+use crate::types::{boxed_head, boxed_reduced};
 use con_terms::con::{Con, Cons, Pairs};
-use con_terms::kind::{Kind, copy_kind};
+use con_terms::kind::Kind;
 use con_terms::place::Place;
 use con_terms::symbol::Sym;
 use core_terms::{Exp, Form};
 use kind_rules::scope::kind_of_basic;
-use name_scopes::ElabFault;
+use name_scopes::{ElabFault, KnownValue, ValueName};
 use row_normal::pieces::pieces;
 use std::alloc::{AllocError, Global};
 use type_makers::symbols;
@@ -23,28 +23,65 @@ fn is_class(s: Sym) -> bool {
         || s == symbols::SQL_INJECTABLE
 }
 
+/// The kind of a basic type, on the heap; none where it has none.
+fn basic_kind(alloc: Global, env: &Env, s: Sym) -> Result<Option<Box<Kind>>, AllocError> {
+    match kind_of_basic(alloc, env.scope.kinds(), s)? {
+        Ok(kind) => Ok(Some(on_heap(alloc, kind)?)),
+        Err(_) => Ok(None),
+    }
+}
+
+/// The kind of the values of rows of a kind; none where it isn't one of rows.
+fn values_of(rows: Box<Kind>) -> Option<Box<Kind>> {
+    match Box::into_inner(rows) {
+        Kind::Row(values) => Some(values),
+        _ => None,
+    }
+}
+
+/// The kind of the values of the rows that functions of a kind take; none where they take no rows.
+fn values_taken(functions: Box<Kind>) -> Option<Box<Kind>> {
+    match Box::into_inner(functions) {
+        Kind::Arrow(from, _) => values_of(from),
+        _ => None,
+    }
+}
+
+/// No folder, where none was found; else want of memory.
+fn no_folder(fault: &ElabFault) -> Result<bool, AllocError> {
+    match fault {
+        ElabFault::Memory => Err(AllocError),
+        _ => Ok(false),
+    }
+}
+
+/// Whether this is the type of the folders of rows whose values have this kind.
+fn is_folder(alloc: Global, env: &Env, values: &Kind, s: Sym) -> Result<bool, AllocError> {
+    match env.scope.folder(alloc, values) {
+        Ok(folder) => Ok(folder == s),
+        Err(fault) => no_folder(&fault),
+    }
+}
+
+/// The kind of the values of the rows that a basic type takes; none where it takes no rows.
+fn values_of_basic(alloc: Global, env: &Env, s: Sym) -> Result<Option<Box<Kind>>, AllocError> {
+    match basic_kind(alloc, env, s)? {
+        Some(kind) => Ok(values_taken(kind)),
+        None => Ok(None),
+    }
+}
+
 /// The kind of the values of the rows of which this is the type of folders; none where it is none.
-pub fn folder_kind(alloc: Global, env: &Env, s: Sym) -> Result<Option<Kind>, AllocError> {
-    let kind = match kind_of_basic(alloc, env.scope.kinds(), s)? {
-        Ok(kind) => kind,
-        Err(_) => return Ok(None),
-    };
-    let Kind::Arrow(from, _) = kind else {
-        return Ok(None);
-    };
-    let Kind::Row(values) = Box::into_inner(from) else {
-        return Ok(None);
-    };
-    match env.scope.folder(alloc, &values) {
-        Ok(folder) => {
-            if folder == s {
-                Ok(Some(Box::into_inner(values)))
+fn folder_kind(alloc: Global, env: &Env, s: Sym) -> Result<Option<Box<Kind>>, AllocError> {
+    match values_of_basic(alloc, env, s)? {
+        None => Ok(None),
+        Some(values) => {
+            if is_folder(alloc, env, &values, s)? {
+                Ok(Some(values))
             } else {
                 Ok(None)
             }
         }
-        Err(ElabFault::Memory) => Err(AllocError),
-        Err(_) => Ok(None),
     }
 }
 
@@ -59,23 +96,29 @@ fn applied_basic(c: &Con) -> Option<Sym> {
     }
 }
 
+/// The basic type that is applied to one constructor, once the root is reduced.
+fn reduced_basic(alloc: Global, c: &Con) -> Result<Option<Sym>, AllocError> {
+    match boxed_head(alloc, c)? {
+        None => Ok(None),
+        Some(head) => Ok(applied_basic(&head)),
+    }
+}
+
+/// The basic type that is applied to one constructor, where the root may have to be reduced.
+fn basic_in(alloc: Global, c: &Con) -> Result<Option<Sym>, AllocError> {
+    match c {
+        Con::App(f, _) => match &**f {
+            Con::Basic(s) => Ok(Some(*s)),
+            _ => reduced_basic(alloc, c),
+        },
+        Con::Proj(_, _) => reduced_basic(alloc, c),
+        _ => Ok(None),
+    }
+}
+
 /// Whether parameters of this type are inserted: folders and instances.
 pub fn is_implied(alloc: Global, env: &Env, c: &Con) -> Result<bool, AllocError> {
-    let symbol = match c {
-        Con::App(f, _) => match &**f {
-            Con::Basic(s) => Some(*s),
-            _ => match head_of(alloc, c)? {
-                None => None,
-                Some(head) => applied_basic(&head),
-            },
-        },
-        Con::Proj(_, _) => match head_of(alloc, c)? {
-            None => None,
-            Some(head) => applied_basic(&head),
-        },
-        _ => None,
-    };
-    match symbol {
+    match basic_in(alloc, c)? {
         None => Ok(false),
         Some(s) => {
             if is_class(s) {
@@ -86,16 +129,18 @@ pub fn is_implied(alloc: Global, env: &Env, c: &Con) -> Result<bool, AllocError>
     }
 }
 
+/// Fields with others behind them.
+fn with_fields(fields: Pairs, others: Pairs) -> Result<Option<Pairs>, AllocError> {
+    let mut all = fields;
+    let mut more = others;
+    all.items.append(&mut more.items)?;
+    Ok(Some(all))
+}
+
 /// Fields with those of a piece behind them; none where the piece is no literal.
 fn with_piece(fields: Pairs, piece: Con) -> Result<Option<Pairs>, AllocError> {
     match piece {
-        Con::Row(_, more) => {
-            let mut all = fields;
-            for pair in more.items {
-                all.push(pair)?;
-            }
-            Ok(Some(all))
-        }
+        Con::Row(_, more) => with_fields(fields, more),
         _ => Ok(None),
     }
 }
@@ -114,10 +159,10 @@ fn fields_of(alloc: Global, pieces: Cons) -> Result<Option<Pairs>, AllocError> {
 
 /// The fields of a row, in the written order; none where it isn't put together of literals.
 fn literal_fields(alloc: Global, row: &Con) -> Result<Option<Pairs>, AllocError> {
-    match reduced(alloc, row)? {
+    match boxed_reduced(alloc, row)? {
         None => Ok(None),
         Some(row) => {
-            let pieces = pieces(alloc, row)?;
+            let pieces = pieces(alloc, Box::into_inner(row))?;
             fields_of(alloc, pieces)
         }
     }
@@ -134,21 +179,40 @@ fn inserted(alloc: Global, place: Place, form: Form) -> Result<Box<Exp>, AllocEr
 }
 
 /// The folder of a row whose values have this kind.
-fn folder_of(alloc: Global, place: Place, kind: Kind, row: &Con) -> Result<Box<Exp>, ElabFault> {
+fn folder_of(
+    alloc: Global,
+    place: Place,
+    kind: Box<Kind>,
+    row: &Con,
+) -> Result<Box<Exp>, ElabFault> {
     match literal_fields(alloc, row)? {
         None => Err(ElabFault::NoFolder(place)),
-        Some(fields) => Ok(inserted(alloc, place, Form::Folder(kind, fields))?),
+        Some(fields) => Ok(inserted(alloc, place, Form::Folder(Box::into_inner(kind), fields))?),
+    }
+}
+
+/// What is known of the instance of this type, on the heap, where there is one.
+fn known_instance(
+    alloc: Global,
+    env: &Env,
+    t: &Con,
+) -> Result<Option<Box<KnownValue>>, AllocError> {
+    maybe_on_heap(alloc, env.scope.instance(alloc, t)?)
+}
+
+/// The instance with this name.
+fn named_instance(alloc: Global, place: Place, name: ValueName) -> Result<Box<Exp>, ElabFault> {
+    match form_of(name) {
+        None => Err(ElabFault::NoInstance(place)),
+        Some(form) => Ok(inserted(alloc, place, form)?),
     }
 }
 
 /// The instance of this type.
 fn instance_of(alloc: Global, env: &Env, place: Place, t: &Con) -> Result<Box<Exp>, ElabFault> {
-    match env.scope.instance(alloc, t)? {
+    match known_instance(alloc, env, t)? {
         None => Err(ElabFault::NoInstance(place)),
-        Some(known) => match form_of(known.name) {
-            None => Err(ElabFault::NoInstance(place)),
-            Some(form) => Ok(inserted(alloc, place, form)?),
-        },
+        Some(known) => named_instance(alloc, place, known.name),
     }
 }
 
@@ -160,7 +224,7 @@ pub fn implied_term(
     place: Place,
     t: &Con,
 ) -> Result<Box<Exp>, ElabFault> {
-    let head = match head_of(alloc, t)? {
+    let head = match boxed_head(alloc, t)? {
         Some(head) => head,
         None => return instance_of(alloc, env, place, t),
     };
@@ -170,8 +234,8 @@ pub fn implied_term(
     };
     match kind {
         None => instance_of(alloc, env, place, t),
-        Some(kind) => match &head {
-            Con::App(_, row) => folder_of(alloc, place, copy_kind(alloc, &kind)?, row),
+        Some(kind) => match &*head {
+            Con::App(_, row) => folder_of(alloc, place, kind, row),
             _ => Err(ElabFault::NoFolder(place)),
         },
     }

@@ -2,9 +2,9 @@
 use crate::heads::node;
 use crate::pending::{Outcome, done};
 use con_terms::place::Place;
-use core_terms::Form;
+use core_terms::{Exp, Form};
 use name_scopes::ElabFault;
-use std::alloc::Global;
+use std::alloc::{AllocError, Global};
 use table_rows::Text;
 use type_makers::types::{int_type, string_type};
 
@@ -19,14 +19,24 @@ pub fn number_of(negative: bool, digits: u64) -> i64 {
     }
 }
 
+/// The term of a number.
+fn number_node(alloc: Global, place: Place, digits: u64) -> Result<Box<Exp>, AllocError> {
+    node(alloc, place, Form::Int(number_of(false, digits)))
+}
+
+/// The term of a text.
+fn words_node(alloc: Global, place: Place, text: &Text) -> Result<Box<Exp>, AllocError> {
+    node(alloc, place, Form::Words(text.copy(alloc)?))
+}
+
 /// A number.
 pub fn number<'a>(alloc: Global, place: Place, digits: u64) -> Result<Outcome<'a>, ElabFault> {
-    let form = Form::Int(number_of(false, digits));
-    Ok(done(alloc, node(alloc, place, form)?, int_type())?)
+    let exp = number_node(alloc, place, digits)?;
+    Ok(done(alloc, exp, int_type())?)
 }
 
 /// A text.
 pub fn words<'a>(alloc: Global, place: Place, text: &Text) -> Result<Outcome<'a>, ElabFault> {
-    let form = Form::Words(text.copy(alloc)?);
-    Ok(done(alloc, node(alloc, place, form)?, string_type())?)
+    let exp = words_node(alloc, place, text)?;
+    Ok(done(alloc, exp, string_type())?)
 }

@@ -2,7 +2,7 @@
 //!
 //! What is large stands behind a `Box`: a function pays for each large value that it owns wherever it may fail.
 use crate::env::Env;
-use crate::memory::on_heap;
+use crate::memory::{on_heap, put_before};
 use crate::want::Typed;
 use con_terms::con::Con;
 use con_terms::kind::Kind;
@@ -190,25 +190,13 @@ pub fn later<'a>(alloc: Global, core: Core<'a>) -> Result<Outcome<'a>, AllocErro
     Ok(Outcome::Later(on_heap(alloc, Pending { frames, core })?))
 }
 
-/// Frames, the outermost first, with those inside of them.
-fn with_inner<'a>(
-    outer: Vec<Frame<'a>>,
-    inner: Vec<Frame<'a>>,
-) -> Result<Vec<Frame<'a>>, AllocError> {
-    let mut frames = outer;
-    for frame in inner {
-        frames.push(frame)?;
-    }
-    Ok(frames)
-}
-
 /// What is open, with these around it.
 pub fn under<'a>(
-    alloc: Global,
+    _alloc: Global,
     outer: Vec<Frame<'a>>,
     pending: Box<Pending<'a>>,
 ) -> Result<Outcome<'a>, AllocError> {
-    let Pending { frames, core } = Box::into_inner(pending);
-    let frames = with_inner(outer, frames)?;
-    Ok(Outcome::Later(on_heap(alloc, Pending { frames, core })?))
+    let mut pending = pending;
+    put_before(&mut pending.frames, outer)?;
+    Ok(Outcome::Later(pending))
 }

@@ -1,8 +1,9 @@
 //! Records and their fields: projections, fields that are left out, records that are joined.
 use crate::env::Env;
-use crate::faults::{any_record, mismatch, not_of, record_of_pairs};
+use crate::faults::{any_record, boxed_mismatch, boxed_not_of, record_of_pairs, too_large};
 use crate::memory::on_heap;
-use crate::types::{normal_of, reduced};
+use crate::types::{boxed_normal, boxed_reduced, reduced};
+use crate::want::boxed_copy;
 use con_terms::con::{Con, Cons, Pair, Pairs};
 use con_terms::copy::copy_con;
 use con_terms::kind::Kind;
@@ -12,14 +13,21 @@ use name_scopes::ElabFault;
 use row_normal::pieces::{pieces, row_of_pieces};
 use row_normal::same::same_con;
 use std::alloc::{AllocError, Global};
-use type_faults::fault::Fault;
 use type_makers::forms::record;
 
+/// The row of a record type; none where the type is no record's.
+fn row_in(t: Box<Con>) -> Option<Box<Con>> {
+    match Box::into_inner(t) {
+        Con::Record(row) => Some(row),
+        _ => None,
+    }
+}
+
 /// The row of a record type, with its parts reduced; none where the type is no record's.
-pub fn row_of_record(alloc: Global, t: &Con) -> Result<Option<Con>, AllocError> {
-    match reduced(alloc, t)? {
-        Some(Con::Record(row)) => Ok(Some(Box::into_inner(row))),
-        _ => Ok(None),
+fn row_of_record(alloc: Global, t: &Con) -> Result<Option<Box<Con>>, AllocError> {
+    match boxed_reduced(alloc, t)? {
+        Some(t) => Ok(row_in(t)),
+        None => Ok(None),
     }
 }
 
@@ -27,7 +35,7 @@ pub fn row_of_record(alloc: Global, t: &Con) -> Result<Option<Con>, AllocError> 
 pub fn record_pieces(alloc: Global, t: &Con) -> Result<Option<Cons>, AllocError> {
     match row_of_record(alloc, t)? {
         None => Ok(None),
-        Some(row) => Ok(Some(pieces(alloc, row)?)),
+        Some(row) => Ok(Some(pieces(alloc, Box::into_inner(row))?)),
     }
 }
 
@@ -86,14 +94,25 @@ pub fn reduced_name(alloc: Global, name: &Con) -> Result<Con, AllocError> {
     }
 }
 
-/// A record type of one field, of which the type isn't told.
-fn like_field(alloc: Global, name: Con) -> Result<Con, AllocError> {
+/// A name, reduced, on the heap.
+fn boxed_name(alloc: Global, name: &Con) -> Result<Box<Con>, AllocError> {
+    on_heap(alloc, reduced_name(alloc, name)?)
+}
+
+/// One field, of which the type isn't told.
+fn pairs_of_name(alloc: Global, name: Box<Con>) -> Result<Pairs, AllocError> {
     let mut pairs = Pairs::new(alloc);
     pairs.push(Pair {
-        name,
+        name: Box::into_inner(name),
         value: Con::UnitCon,
     })?;
-    record_of_pairs(alloc, pairs)
+    Ok(pairs)
+}
+
+/// A record type of one field, of which the type isn't told.
+fn like_field(alloc: Global, name: Box<Con>) -> Result<Box<Con>, AllocError> {
+    let pairs = pairs_of_name(alloc, name)?;
+    on_heap(alloc, record_of_pairs(alloc, pairs)?)
 }
 
 /// What is told where a record has no field of this name.
@@ -105,23 +124,57 @@ fn no_field(
     t: &Con,
     name: &Con,
 ) -> Result<ElabFault, AllocError> {
-    match normal_of(alloc, name)? {
-        None => Ok(ElabFault::Told(Fault::TooLarge(at))),
+    match boxed_normal(alloc, name)? {
+        None => Ok(too_large(at)),
         Some(name) => {
             let wanted = like_field(alloc, name)?;
-            not_of(alloc, env, at, wanted, t)
+            boxed_not_of(alloc, env, at, wanted, t)
         }
     }
+}
+
+/// What is told where the type of a term that is to be a record is no record's.
+fn no_record(alloc: Global, env: &Env, part: Place, t: &Con) -> Result<ElabFault, AllocError> {
+    let wanted = on_heap(alloc, any_record(alloc)?)?;
+    boxed_not_of(alloc, env, part, wanted, t)
 }
 
 /// The pieces of the type of a term that is to be a record, which stands at `part`.
 fn pieces_or(alloc: Global, env: &Env, part: Place, t: &Con) -> Result<Cons, ElabFault> {
     match record_pieces(alloc, t)? {
         Some(pieces) => Ok(pieces),
-        None => {
-            let wanted = any_record(alloc)?;
-            Err(not_of(alloc, env, part, wanted, t)?)
-        }
+        None => Err(no_record(alloc, env, part, t)?),
+    }
+}
+
+/// The type of the field of a name among the pieces of the type of a record.
+fn type_or(
+    alloc: Global,
+    env: &Env,
+    at: Place,
+    t: &Con,
+    pieces: &Cons,
+    name: &Con,
+) -> Result<Con, ElabFault> {
+    match field_type(alloc, pieces, name)? {
+        Some(con) => Ok(con),
+        None => Err(no_field(alloc, env, at, t, name)?),
+    }
+}
+
+/// Where the field of a name stands among the pieces of the type of a record.
+fn index_or(
+    alloc: Global,
+    env: &Env,
+    at: Place,
+    t: &Con,
+    pieces: &Cons,
+    name: &Con,
+) -> Result<usize, ElabFault> {
+    let name = boxed_name(alloc, name)?;
+    match field_index(pieces, &name) {
+        Some(i) => Ok(i),
+        None => Err(no_field(alloc, env, at, t, &name)?),
     }
 }
 
@@ -136,18 +189,18 @@ pub fn projected(
     name: &Con,
 ) -> Result<Con, ElabFault> {
     let pieces = pieces_or(alloc, env, part, t)?;
-    let name = reduced_name(alloc, name)?;
-    match field_type(alloc, &pieces, &name)? {
-        Some(con) => Ok(con),
-        None => Err(no_field(alloc, env, at, t, &name)?),
-    }
+    let name = boxed_name(alloc, name)?;
+    type_or(alloc, env, at, t, &pieces, &name)
 }
+
+/// Lets a piece go.
+fn let_go(_piece: Con) {}
 
 /// The pieces but for the one at this place, as they stand.
 fn without_at(pieces: Cons, i: usize) -> Cons {
     let mut left = pieces;
     if i < left.items.len() {
-        let _piece = left.items.remove(i);
+        let_go(left.items.remove(i));
     }
     left
 }
@@ -169,14 +222,8 @@ pub fn left_out(
     name: &Con,
 ) -> Result<Con, ElabFault> {
     let pieces = pieces_or(alloc, env, part, t)?;
-    let name = reduced_name(alloc, name)?;
-    match field_index(&pieces, &name) {
-        None => Err(no_field(alloc, env, at, t, &name)?),
-        Some(i) => {
-            let rest = without_at(pieces, i);
-            Ok(record_of_pieces(alloc, rest)?)
-        }
-    }
+    let i = index_or(alloc, env, at, t, &pieces, name)?;
+    Ok(record_of_pieces(alloc, without_at(pieces, i))?)
 }
 
 /// Whether two pieces are one: fields of one name, whatever their values, or rows that are equal.
@@ -214,20 +261,20 @@ fn no_row(
     t: &Con,
     row: &Con,
 ) -> Result<ElabFault, AllocError> {
-    match normal_of(alloc, row)? {
-        None => Ok(ElabFault::Told(Fault::TooLarge(at))),
+    match boxed_normal(alloc, row)? {
+        None => Ok(too_large(at)),
         Some(row) => {
-            let wanted = record(alloc, row)?;
-            not_of(alloc, env, at, wanted, t)
+            let wanted = on_heap(alloc, Con::Record(row))?;
+            boxed_not_of(alloc, env, at, wanted, t)
         }
     }
 }
 
 /// The row that is left out, in its pieces.
 fn pieces_out(alloc: Global, at: Place, row: &Con) -> Result<Cons, ElabFault> {
-    match reduced(alloc, row)? {
-        Some(out) => Ok(pieces(alloc, out)?),
-        None => Err(ElabFault::Told(Fault::TooLarge(at))),
+    match boxed_reduced(alloc, row)? {
+        Some(out) => Ok(pieces(alloc, Box::into_inner(out))?),
+        None => Err(too_large(at)),
     }
 }
 
@@ -270,23 +317,18 @@ pub fn row_left_out(
 }
 
 /// The row of a term that is to be a record.
-fn row_or(alloc: Global, env: &Env, part: Place, t: &Con) -> Result<Con, ElabFault> {
+fn row_or(alloc: Global, env: &Env, part: Place, t: &Con) -> Result<Box<Con>, ElabFault> {
     match row_of_record(alloc, t)? {
         Some(row) => Ok(row),
-        None => {
-            let wanted = any_record(alloc)?;
-            Err(not_of(alloc, env, part, wanted, t)?)
-        }
+        None => Err(no_record(alloc, env, part, t)?),
     }
 }
 
 /// The pieces of two rows, one after the other.
-fn joined_pieces(alloc: Global, left: Con, right: Con) -> Result<Cons, AllocError> {
-    let mut all = pieces(alloc, left)?;
-    let more = pieces(alloc, right)?;
-    for piece in more.items {
-        all.push(piece)?;
-    }
+fn joined_pieces(alloc: Global, left: Box<Con>, right: Box<Con>) -> Result<Cons, AllocError> {
+    let mut all = pieces(alloc, Box::into_inner(left))?;
+    let mut more = pieces(alloc, Box::into_inner(right))?;
+    all.items.append(&mut more.items)?;
     Ok(all)
 }
 
@@ -315,10 +357,10 @@ pub fn missing_field(
     left: Cons,
     name: &Con,
 ) -> Result<ElabFault, AllocError> {
-    let found = record_of_pieces(alloc, left)?;
-    let wanted = like_field(alloc, copy_con(alloc, name)?)?;
-    match normal_of(alloc, &found)? {
-        None => Ok(ElabFault::Told(Fault::TooLarge(at))),
-        Some(found) => mismatch(alloc, env, at, found, wanted),
+    let found = on_heap(alloc, record_of_pieces(alloc, left)?)?;
+    let wanted = like_field(alloc, boxed_copy(alloc, name)?)?;
+    match boxed_normal(alloc, &found)? {
+        None => Ok(too_large(at)),
+        Some(found) => boxed_mismatch(alloc, env, at, found, wanted),
     }
 }

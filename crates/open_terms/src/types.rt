@@ -1,6 +1,7 @@
 //! Types with their heads reduced, and in normal form.
 ghost use Rattle.std.specs.Prelude.{◌<◌};
 
+use crate::memory::maybe_on_heap;
 use crate::want::Want;
 use con_nodes::{MOST, left_beside, most_units};
 use con_terms::con::Con;
@@ -77,6 +78,21 @@ pub fn normal_of(alloc: Global, c: &Con) -> Result<Option<Con>, AllocError> {
         Err(NormalFault::TooLarge) => too_few(given),
         Err(NormalFault::Memory) => Err(AllocError),
     }
+}
+
+/// A constructor of which the root stays as it is, on the heap; none where it is too large.
+pub fn boxed_head(alloc: Global, c: &Con) -> Result<Option<Box<Con>>, AllocError> {
+    maybe_on_heap(alloc, head_of(alloc, c)?)
+}
+
+/// A constructor after all steps of reduction, on the heap; none where it is too large.
+pub fn boxed_reduced(alloc: Global, c: &Con) -> Result<Option<Box<Con>>, AllocError> {
+    maybe_on_heap(alloc, reduced(alloc, c)?)
+}
+
+/// The normal form of a constructor, on the heap; none where it is too large.
+pub fn boxed_normal(alloc: Global, c: &Con) -> Result<Option<Box<Con>>, AllocError> {
+    maybe_on_heap(alloc, normal_of(alloc, c)?)
 }
 
 /// A type as it is shown and kept: reduced, or as it stands where that is too large.

@@ -1,6 +1,6 @@
 //! What is known of the type of a term, and a term with its type.
 use crate::memory::on_heap;
-use crate::types::{head_of, wants_nothing};
+use crate::types::{boxed_head, wants_nothing};
 use con_terms::con::Con;
 use con_terms::copy::copy_con;
 use core_terms::Exp;
@@ -75,15 +75,39 @@ pub fn may_grow(want: &Want) -> bool {
     }
 }
 
+/// What is wanted of the result of a function of this type.
+fn wanted_result(t: Box<Con>) -> Want {
+    match Box::into_inner(t) {
+        Con::Arrow(_, b) => Want::Whole(b),
+        _ => Want::Choose,
+    }
+}
+
+/// What is wanted of the body of a function of a constructor, of this type.
+fn wanted_of_poly(t: Box<Con>) -> Want {
+    match Box::into_inner(t) {
+        Con::Poly(_, _, b) => Want::Whole(b),
+        _ => Want::Choose,
+    }
+}
+
+/// What is wanted of the body of a function of a guard's proof, of this type.
+fn wanted_of_guarded(t: Box<Con>) -> Want {
+    match Box::into_inner(t) {
+        Con::Guarded(_, _, b) => Want::Whole(b),
+        _ => Want::Choose,
+    }
+}
+
 /// What is wanted of the result of a function of which this is wanted.
 pub fn after_term(alloc: Global, want: &Want) -> Result<Want, ElabFault> {
     match want {
         Want::Free | Want::Page(_, _) => Ok(Want::Free),
         Want::Choose => Ok(Want::Choose),
         Want::Takes(_, w) => Ok(copy_want(alloc, w)?),
-        Want::Whole(c) => match head_of(alloc, c)? {
-            Some(Con::Arrow(_, b)) => Ok(Want::Whole(b)),
-            _ => Ok(Want::Choose),
+        Want::Whole(c) => match boxed_head(alloc, c)? {
+            Some(t) => Ok(wanted_result(t)),
+            None => Ok(Want::Choose),
         },
     }
 }
@@ -91,9 +115,9 @@ pub fn after_term(alloc: Global, want: &Want) -> Result<Want, ElabFault> {
 /// What is wanted of the body of a function of a constructor.
 pub fn after_con(alloc: Global, want: &Want) -> Result<Want, ElabFault> {
     match want {
-        Want::Whole(c) => match head_of(alloc, c)? {
-            Some(Con::Poly(_, _, b)) => Ok(Want::Whole(b)),
-            _ => Ok(Want::Choose),
+        Want::Whole(c) => match boxed_head(alloc, c)? {
+            Some(t) => Ok(wanted_of_poly(t)),
+            None => Ok(Want::Choose),
         },
         _ => Ok(wants_nothing(want)),
     }
@@ -102,9 +126,9 @@ pub fn after_con(alloc: Global, want: &Want) -> Result<Want, ElabFault> {
 /// What is wanted of the body of a function of a guard's proof.
 pub fn after_guard(alloc: Global, want: &Want) -> Result<Want, ElabFault> {
     match want {
-        Want::Whole(c) => match head_of(alloc, c)? {
-            Some(Con::Guarded(_, _, b)) => Ok(Want::Whole(b)),
-            _ => Ok(Want::Choose),
+        Want::Whole(c) => match boxed_head(alloc, c)? {
+            Some(t) => Ok(wanted_of_guarded(t)),
+            None => Ok(Want::Choose),
         },
         _ => Ok(wants_nothing(want)),
     }
