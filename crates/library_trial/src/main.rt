@@ -1,8 +1,8 @@
-//! Tries the libraries below the language: texts, pages, links, projects. Each trial is a line of the output, which
-//! says whether all came out as it was written down beforehand.
+//! Tries the libraries that others stand on: texts, pages, links, projects, constructors and terms. Each trial is a line
+//! of the output, which says whether all came out as it was written down beforehand.
 //!
 //! The clauses of the libraries say what their calls give; a trial shows what no clause can: that memory serves for
-//! large inputs, that a definition means what a person expects, and what becomes of failures outside.
+//! large and deep inputs, that a definition means what a person expects, and what becomes of failures outside.
 #![tactic(auto)]
 
 mod constructors;

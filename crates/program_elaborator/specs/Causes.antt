@@ -1,5 +1,5 @@
--- What has to hold of a refusal before it is told: a name that is told as unbound stands at its place and isn't in scope
--- there; the two types that a mismatch tells have normal forms that differ; and the two kinds that one tells differ.
+-- What has to hold of a refusal before it is told: a name that is told as unbound stands at its place and isn't in
+-- scope there; the two types that a mismatch tells have normal forms that differ; and the two kinds that one tells differ.
 use Rattle.std.specs.Prelude.{Bool, true, false, not, List}
 use Rattle.con_terms.specs.Same.{kd_eq}
 use Rattle.con_terms.specs.View.{con_tree, kind_tree}

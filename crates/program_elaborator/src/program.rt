@@ -1,5 +1,5 @@
-//! Whole programs. A program is given where it is what its source says: `is_source` of the crate `source_terms`. A refusal
-//! is told where it has its cause in the source.
+//! Whole programs. A program is given where it is what its source says: `is_source` of the crate `source_terms`. A
+//! refusal is told where it has its cause in the source.
 ghost use Rattle.std.specs.Prelude.{◌≡◌, true, map, IfOk, IfErr};
 ghost use Rattle.core_terms.specs.Lists.{foreigns_view, rules_view};
 ghost use Rattle.core_terms.specs.View.{program_view};

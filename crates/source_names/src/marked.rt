@@ -35,8 +35,8 @@ fn mark_of_bytes(bytes: &[u8]) -> u64
     mark
 }
 
-/// Whether a value is the one of a name with this mark in a module. Most values have another mark, and their names aren't
-/// compared.
+/// Whether a value is the one of a name with this mark in a module. Most values have another mark, and their names
+/// aren't compared.
 pub(crate) fn is_value(value: &KnownValue, home: usize, mark: u64, name: &Text) -> bool
     requires { mark ≡ marks.mark_of name.now }
     ensures { result ≡ (value.now.home == home && bytes_eq value.now.name name.now) }

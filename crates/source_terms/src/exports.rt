@@ -77,7 +77,8 @@ fn number_of(
     place: usize,
     numbers: &mut Vec<u32>,
 ) -> Result<(), AllocError>
-    ensures { OnOk result (numbers.new.items ≡ (if selection.is_chosen home selected.now (value_view value.now) later.now
+    ensures { OnOk result (numbers.new.items
+        ≡ (if selection.is_chosen home selected.now (value_view value.now) later.now
         then numbers.old.items ++ place ∷ [] else numbers.old.items)) }
 {
     if is_export(home, selected, value, later) {
