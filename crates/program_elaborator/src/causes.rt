@@ -1,7 +1,8 @@
 //! Refusals, held against the modules before they are told.
-ghost use Rattle.std.specs.Prelude.{◌≡◌, true, map, IfOk};
+ghost use Rattle.std.specs.Prelude.{◌≡◌, ◌≢◌, true, map, IfOk};
 ghost use Rattle.core_terms.specs.Lists.{foreigns_view};
 ghost use Rattle.plain_tree.specs.View.{plain_view};
+ghost use Rattle.name_scopes.specs.declared.fault.ElabFault.TheVariants as elab;
 ghost use Rattle.program_elaborator.specs.Causes.{differ as are_different, is_caused as has_its_cause, is_told_rightly, kinds_differ as have_different_kinds};
 
 use crate::fault::{Refusal, memory};
@@ -64,8 +65,9 @@ fn is_caused(alloc: Global, source: &Source, fault: &ElabFault) -> Result<bool, 
 
 /// A refusal that has its cause in the modules. One that hasn't counts as want of memory.
 pub fn caused(alloc: Global, source: &Source, refusal: Refusal) -> Refusal
-    ensures { has_its_cause source.now.modules (map plain_view source.now.trees.items)
+    ensures cause { has_its_cause source.now.modules (map plain_view source.now.trees.items)
         (foreigns_view source.now.foreign) result.fault ≡ true }
+    ensures same { result.fault ≢ elab.Memory → result ≡ refusal }
 {
     match is_caused(alloc, source, &refusal.fault) {
         Ok(true) => refusal,
