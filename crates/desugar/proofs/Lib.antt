@@ -1,0 +1,4 @@
+-- What a listing leaves on the stack.
+pub mod Listed
+-- Repetitions, tree by tree.
+pub mod Repeated

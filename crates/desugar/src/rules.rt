@@ -1,0 +1,28 @@
+//! What the rules of the grammar stand for.
+ghost use Rattle.std.specs.Prelude.{◌≡◌, IfOk};
+ghost use Rattle.desugar_values.specs.View.{meaning_tree, meanings_tree};
+ghost use Rattle.desugar.specs.Plain.{built};
+
+use desugar_terms::decl_rules::build_decl;
+use desugar_terms::markup_rules::build_markup;
+use desugar_terms::term_rules::build_term;
+use desugar_types::con_rules::{build_con, build_kind};
+use desugar_types::pat_rules::build_pat;
+use desugar_values::{Meaning, Meanings};
+use std::alloc::{AllocError, Global};
+use surface_grammar::Rule;
+
+/// What a rule stands for, by what its parts stand for.
+pub fn build(alloc: Global, rule: Rule, parts: Meanings) -> Result<Meaning, AllocError>
+    ensures { IfOk result (λ m. meaning_tree m ≡ built rule (meanings_tree parts)) }
+{
+    match rule {
+        Rule::Kind(rule) => build_kind(alloc, rule, parts),
+        Rule::Con(rule) => build_con(alloc, rule, parts),
+        Rule::Pat(rule) => build_pat(alloc, rule, parts),
+        Rule::Exp(rule) => build_term(alloc, rule, parts),
+        Rule::Markup(rule) => build_markup(alloc, rule, parts),
+        Rule::Decl(rule) => Ok(build_decl(rule, parts)),
+        Rule::Arg(_) | Rule::Sql(_) => Ok(Meaning::Group(parts)),
+    }
+}

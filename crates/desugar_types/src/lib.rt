@@ -1,0 +1,16 @@
+//! Kinds, constructors, patterns and parameters without sugar, rule by rule.
+#![tactic(auto)]
+
+pub mod brackets;
+pub mod con_rules;
+pub mod constructors;
+pub mod kinds;
+pub mod leading;
+pub mod lists;
+pub mod parameters;
+pub mod pat_records;
+pub mod pat_rules;
+pub mod paths;
+pub mod patterns;
+pub mod rows;
+pub mod tails;

@@ -1,0 +1,2 @@
+-- Lists of meanings, one part after another.
+pub mod Lists
