@@ -96,12 +96,12 @@ front_of_page (Some x) (Some y) old new v trees p q h (front, rest, is, grew) =
 
 -- what was read is of another form, and some page was written
 pub other_page : (before left old new : Option (List ℕ)) (v : List ℕ) → Consumes before left v → (length v < 4194305 → IsAtEnd left)
-    → IsRefused v OtherForm → ((trees : Trees) × IsMeant trees × WritesPage old new (written trees)) → PageIsWritten before left old new
+    → IsRefused v OtherForm → ((trees : Trees) × IsMeant v trees × WritesPage old new (written trees)) → PageIsWritten before left old new
 other_page None left old new v p q h w = tt
 other_page (Some x) None old new v p q h w = absurd p
 other_page (Some x) (Some y) old new v p q h w =
     let end : y ≡ [] = q (omega (arith, h.0.0)) in
-    (end, w.0, inr (subst IsOther (whole x y v p end) h, w.1), w.2)
+    (end, w.0, inr (subst IsOther (whole x y v p end) h, subst (λ (l : List ℕ). IsMeant l w.0) (whole x y v p end) w.1), w.2)
 
 -- or some line
 pub other_line : (before left old new : Option (List ℕ)) (v : List ℕ) → Consumes before left v → (length v < 4194305 → IsAtEnd left)
@@ -110,13 +110,16 @@ other_line None left old new v p q h w = tt
 other_line (Some x) left old new v p q h w = (w.0, inr (refused (Some x) left v OtherForm p q h), w.1)
 
 -- or a front of either
-pub other_front : (before left old new : Option (List ℕ)) (v : List ℕ) → Consumes before left v → (length v < 4194305 → IsAtEnd left)
-    → IsRefused v OtherForm → SomeFrontIsWritten old new ⊎ ((trees : Trees) × IsMeant trees × WritesFront old new (written trees)) → FrontIsWritten before old new
-other_front None left old new v p q h w = tt
-other_front (Some x) left old new v p q h (inl w) = (w.0, inr (inr (refused (Some x) left v OtherForm p q h)), w.1)
-other_front (Some x) left old new v p q h (inr (trees, meant, (front, rest, is, grew))) =
+pub other_front : (before left old new : Option (List ℕ)) (v u : List ℕ) → Consumes before left v → (length v < 4194305 → IsAtEnd left)
+    → IsRefused v OtherForm → u ≡ v → SomeFrontIsWritten old new ⊎ ((trees : Trees) × IsMeant u trees × WritesFront old new (written trees)) → FrontIsWritten before old new
+other_front None left old new v u p q h same w = tt
+other_front (Some x) None old new v u p q h same w = absurd p
+other_front (Some x) (Some y) old new v u p q h same (inl w) = (w.0, inr (inr (refused (Some x) (Some y) v OtherForm p q h)), w.1)
+other_front (Some x) (Some y) old new v u p q h same (inr (trees, meant, (front, rest, is, grew))) =
+    let end : y ≡ [] = q (omega (arith, h.0.0)) in
+    let here : IsMeant x trees = subst (λ (l : List ℕ). IsMeant l trees) (same ∙ whole x y v p end) meant in
     let some : take (length front) (front ++ rest) ≡ front = take_at front rest (length front) refl in
-    (front ++ rest, inl (trees, inr (refused (Some x) left v OtherForm p q h, meant), is), (length front, subst (Appends old new) (sym some) grew))
+    (front ++ rest, inl (trees, inr (refused (Some x) (Some y) v OtherForm p q h, here), is), (length front, subst (Appends old new) (sym some) grew))
 
 -- another form is no want of memory
 pub no_memory : (fault : ModuleFault) → fault ≡ OtherForm → fault ≡ Memory → ⊥

@@ -13,8 +13,9 @@ use Rattle.page_server.specs.declared.refusal.ModuleFault.{ModuleFault}
 use Rattle.page_server.specs.declared.refusal.ModuleFault.TheVariants.{OtherForm}
 use Rattle.site_build.specs.declared.fault.BuildFault.{BuildFault}
 use Rattle.site_build.specs.Lines.{line_of as line_of_build}
+use Rattle.site_build.specs.Sources.{IsProgramOfText}
 use Rattle.page_server.specs.Lines.{line_of}
-use Rattle.page_server.specs.Words.{is_build, reads, for_page}
+use Rattle.page_server.specs.Words.{is_build, reads, for_check, for_explicit, for_page}
 use Rattle.page_server.specs.Modules.{HasPage, IsRefused}
 
 -- the one word `page`
@@ -25,6 +26,10 @@ IsPageCommand words = reads words ≡ Some for_page
 abbrev pub IsBuildCommand : List (List ℕ) → Type 0
 IsBuildCommand words = is_build (reads words) ≡ true
 
+-- one of both, and this folder
+abbrev pub IsBuildOf : List (List ℕ) → List ℕ → Type 0
+IsBuildOf words dir = (reads words ≡ Some (for_check dir)) ⊎ (reads words ≡ Some (for_explicit dir))
+
 abbrev pub IsNoCommand : List (List ℕ) → Type 0
 IsNoCommand words = reads words ≡ None
 
@@ -32,13 +37,13 @@ IsNoCommand words = reads words ≡ None
 abbrev pub IsOther : List ℕ → Type 0
 IsOther input = IsRefused input OtherForm
 
--- an accepted program's page has these trees
-abbrev pub IsMeant : Trees → Type 0
-IsMeant trees = (p : Pg) × Accepts p × IsShown p trees
+-- these trees are the page of an accepted program that is what the module says
+abbrev pub IsMeant : List ℕ → Trees → Type 0
+IsMeant input trees = (p : Pg) × IsProgramOfText input p × Accepts p × IsShown p trees
 
--- these trees may be the page of the module: of a small one its own, of another one that of an accepted program
+-- these trees may be the page of the module: of a small one its own, of another one that of a program that it says
 abbrev pub MayShow : List ℕ → Trees → Type 0
-MayShow input trees = HasPage input trees ⊎ (IsOther input × IsMeant trees)
+MayShow input trees = HasPage input trees ⊎ (IsOther input × IsMeant input trees)
 
 -- this line may refuse the module
 abbrev pub MayRefuse : List ℕ → List ℕ → Type 0

@@ -1,13 +1,14 @@
 //! The top call.
-ghost use Rattle.std.specs.Prelude.{◌≡◌, ◌≤◌, ◌<◌, ℕ, List, map, string_bytes, false, ◌⊎◌, Some};
+ghost use Rattle.std.specs.Prelude.{◌≡◌, ◌≤◌, ◌<◌, ℕ, List, [], map, string_bytes, false, ◌⊎◌, Some, IfSome};
 ghost use Rattle.std.specs.Io.KnownBytes.{Appends, Keeps};
 ghost use Rattle.xml_trees.specs.Trees.{Trees, IsWhole, built, trees_of};
 ghost use Rattle.xml_trees.specs.Written.{written};
 ghost use Rattle.page_bytes.specs.Pages.{WritesPage, WritesFront};
+ghost use Rattle.site_build.specs.Sources.{HasProgram};
 ghost use Rattle.ur_outside.specs.Causes.{Rose};
 ghost use Rattle.ur_outside.specs.Whole.{AppendsFront};
 ghost use Rattle.page_server.specs.Lines.{accepted, line_of, usage};
-ghost use Rattle.page_server.specs.Top.{FrontIsWritten, IsBuildCommand, IsMeant, IsNoCommand, IsPageCommand, IsToldPage, PageIsWritten, RefusalIsWritten, SomeFrontIsWritten, SomeIsWritten, UnbuiltIsWritten};
+ghost use Rattle.page_server.specs.Top.{FrontIsWritten, IsBuildCommand, IsBuildOf, IsMeant, IsNoCommand, IsPageCommand, IsToldPage, PageIsWritten, RefusalIsWritten, SomeFrontIsWritten, SomeIsWritten, UnbuiltIsWritten};
 ghost use Rattle.page_server.specs.Words.{for_check, reads};
 
 use crate::module::LONGEST;
@@ -91,11 +92,13 @@ fn end_other<T: Terms + Drop, O: Sink>(
 ) -> Ended
     ensures range { (result.status ≤ 5) × ((result.status ≡ 2) ⊎ (result.status ≡ 3) → ⊥) }
     ensures page { result.status ≡ 0
-        → (trees : Trees) × IsMeant trees × WritesPage (O.wrote output.old) (O.wrote output.new) (written trees) }
+        → (trees : Trees) × IsMeant bytes.now trees
+        × WritesPage (O.wrote output.old) (O.wrote output.new) (written trees) }
     ensures refused { result.status ≡ 1 → SomeIsWritten (O.wrote output.old) (O.wrote output.new) }
     ensures kept { result.status ≡ 5 → Keeps (O.wrote output.old) (O.wrote output.new) }
     ensures front { result.status ≡ 4 → SomeFrontIsWritten (O.wrote output.old) (O.wrote output.new)
-        ⊎ (trees : Trees) × IsMeant trees × WritesFront (O.wrote output.old) (O.wrote output.new) (written trees) }
+        ⊎ (trees : Trees) × IsMeant bytes.now trees
+        × WritesFront (O.wrote output.old) (O.wrote output.new) (written trees) }
     ensures failed { result.status ≡ 4 → Rose (O.faults output.old) (O.faults output.new) }
 {
     match page_of_text(alloc, terms, bytes) {
@@ -178,6 +181,7 @@ fn end_build<T: Terms + Drop, F: Files, O: Sink>(
     ensures accepted { explicit ≡ false → result.status ≡ 0
         → Appends (O.wrote output.old) (O.wrote output.new) accepted }
     ensures written { result.status ≡ 0 → SomeIsWritten (O.wrote output.old) (O.wrote output.new) }
+    ensures built { result.status ≡ 0 → IfSome (F.told files.old) (λ files. HasProgram files dir.now []) }
     ensures refused { result.status ≡ 1 → UnbuiltIsWritten (O.wrote output.old) (O.wrote output.new) }
     ensures kept { (result.status ≡ 3) ⊎ (result.status ≡ 5) → Keeps (O.wrote output.old) (O.wrote output.new) }
     ensures front { result.status ≡ 4 → SomeFrontIsWritten (O.wrote output.old) (O.wrote output.new) }
@@ -215,6 +219,8 @@ pub fn top<T: Terms + Drop, F: Files, I: Source, O: Sink>(
         → result.status ≡ 0 → Appends (O.wrote line.old.output) (O.wrote line.new.output) accepted }
     ensures explicit { IsBuildCommand (map string_bytes words.now) → result.status ≡ 0
         → SomeIsWritten (O.wrote line.old.output) (O.wrote line.new.output) }
+    ensures built { (dir : List ℕ) → IsBuildOf (map string_bytes words.now) dir → result.status ≡ 0
+        → IfSome (F.told files.old) (λ files. HasProgram files dir []) }
     ensures unbuilt { IsBuildCommand (map string_bytes words.now) → result.status ≡ 1
         → UnbuiltIsWritten (O.wrote line.old.output) (O.wrote line.new.output) }
 

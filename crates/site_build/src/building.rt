@@ -1,7 +1,13 @@
 //! Building a project, and a module alone, over any elaboration of terms: what it gives is checked.
-ghost use Rattle.std.specs.Prelude.{◌≡◌, ◌≤◌, IfOk, IsErrOf};
+ghost use Rattle.std.specs.Prelude.{◌≡◌, ◌≤◌, true, IfOk, IfSome, IsErrOf};
 ghost use Rattle.core_terms.specs.View.{program_view};
 ghost use Rattle.core_typing.specs.Accepts.{Accepts};
+ghost use Rattle.project_files.specs.Projects.{nothing_said};
+ghost use Rattle.project_files.specs.View.{said_by};
+ghost use Rattle.project_sources.specs.View.{IsModuleListing, ListsProject};
+ghost use Rattle.site_build.specs.Sources.{HasProgram, IsProgramIn, IsProgramOfText, only_module};
+ghost use Rattle.surface_grammar.specs.Listings.{Lists};
+ghost use Rattle.surface_grammar.specs.Trees.{Node};
 ghost use Rattle.ur_outside.specs.Causes.{Rose};
 
 use crate::chain::site_of;
@@ -16,7 +22,7 @@ use table_rows::{Text, Texts};
 use ur_outside::Files;
 
 /// Builds the project in a folder. `objects` are the foreign modules that are there. The program that it gives is
-/// accepted.
+/// accepted, and is what the folder's files say.
 pub fn build<T: Terms + Drop, F: Files>(
     alloc: Global,
     terms: &T,
@@ -28,6 +34,8 @@ pub fn build<T: Terms + Drop, F: Files>(
     ensures later { F.faults files.old ≤ F.faults files.new }
     ensures failed { IsErrOf result BuildFault.ReadFault → Rose (F.faults files.old) (F.faults files.new) }
     ensures accepted { IfOk result (λ s. Accepts (program_view s.program)) }
+    ensures source { IfOk result (λ s. IfSome (F.told files.old)
+        (λ files. IsProgramIn files dir.now objects.now (program_view s.program))) }
 {
     let sources = read_sources(alloc, files, dir, objects)?;
     match first_beyond(sources.modules.as_slice()) {
@@ -47,6 +55,8 @@ pub fn explicit_program<T: Terms + Drop, F: Files>(
     ensures kept { F.told files.new ≡ F.told files.old }
     ensures later { F.faults files.old ≤ F.faults files.new }
     ensures failed { IsErrOf result BuildFault.ReadFault → Rose (F.faults files.old) (F.faults files.new) }
+    ensures built { IfOk result (λ _. IfSome (F.told files.old)
+        (λ files. HasProgram files dir.now objects.now)) }
 {
     let site = build(alloc, terms, files, dir, objects)?;
     Ok(site.into_explicit())
@@ -54,7 +64,8 @@ pub fn explicit_program<T: Terms + Drop, F: Files>(
 
 /// The tree of a module alone.
 fn main_tree(alloc: Global, bytes: &[u8]) -> Result<Tree, SourceFault>
-    ensures { IsErrOf result SourceFault.ReadFault → ⊥ }
+    ensures told { IsErrOf result SourceFault.ReadFault → ⊥ }
+    ensures tree { IfOk result (IsModuleListing bytes.now) }
 {
     if bytes.len() > LONGEST {
         let file = Text::of(alloc, "Main.ur")?;
@@ -64,7 +75,9 @@ fn main_tree(alloc: Global, bytes: &[u8]) -> Result<Tree, SourceFault>
 }
 
 /// A project that says nothing.
-fn silent_project(alloc: Global) -> Project {
+fn silent_project(alloc: Global) -> Project
+    ensures { said_by result ≡ record nothing_said { in_modules = true } }
+{
     Project {
         in_modules: true,
         rules: Vec::new(alloc),
@@ -76,7 +89,9 @@ fn silent_project(alloc: Global) -> Project {
 }
 
 /// A module alone, as a project that was read.
-fn only(alloc: Global, tree: Tree) -> Result<Sources, AllocError> {
+fn only(alloc: Global, tree: Tree) -> Result<Sources, AllocError>
+    ensures { IfOk result (λ sources. (n : Node) → Lists tree n → ListsProject sources (only_module n)) }
+{
     let line = Text::of(alloc, "Main")?;
     let mut modules = Vec::new(alloc);
     modules.push(ModuleSource {
@@ -88,7 +103,7 @@ fn only(alloc: Global, tree: Tree) -> Result<Sources, AllocError> {
     Ok(Sources { project, modules })
 }
 
-/// Builds a module alone, as file `Main.ur`. The program that it gives is accepted.
+/// Builds a module alone, as file `Main.ur`. The program that it gives is accepted, and is what the module says.
 pub fn build_text<T: Terms + Drop>(
     alloc: Global,
     terms: &T,
@@ -96,6 +111,7 @@ pub fn build_text<T: Terms + Drop>(
 ) -> Result<Site, BuildFault>
     ensures told { IsErrOf result BuildFault.ReadFault → ⊥ }
     ensures accepted { IfOk result (λ s. Accepts (program_view s.program)) }
+    ensures source { IfOk result (λ s. IsProgramOfText bytes.now (program_view s.program)) }
 {
     let tree = main_tree(alloc, bytes)?;
     let sources = only(alloc, tree)?;

@@ -1,88 +1,49 @@
 //! From the trees of modules to their explicit program.
-ghost use Rattle.std.specs.Prelude.{◌≡◌, IfOk, IsErrOf};
+ghost use Rattle.std.specs.Prelude.{◌≡◌, true, map, IfOk, IsErrOf};
+ghost use Rattle.core_terms.specs.Lists.{foreigns_view, rules_view};
+ghost use Rattle.core_terms.specs.Trees.{Pg};
 ghost use Rattle.core_terms.specs.View.{program_view};
 ghost use Rattle.core_typing.specs.Accepts.{Accepts};
+ghost use Rattle.plain_projects.specs.Listed.{AreWhole};
+ghost use Rattle.plain_tree.specs.View.{plain_view};
+ghost use Rattle.project_sources.specs.Projects.{ProjectTrees};
+ghost use Rattle.project_sources.specs.View.{ListsProject};
+ghost use Rattle.site_build.specs.Sources.{IsProgramOf};
+ghost use Rattle.source_terms.specs.Programs.{is_source as says};
 
 use crate::forms::are_built;
-use crate::names::{names_of, numbered_file};
+use crate::names::numbered_file;
 use crate::{BuildFault, Site};
 use con_terms::place::Place;
 use core_checker::{CheckFault, checked};
-use core_terms::{ForeignName, Foreigns, Program, Rule, Rules};
-use desugar::{plain, plain_interface};
+use core_terms::Program;
 use explicit_text::explicit_text;
 use fault_lines::{Told, told_of_check, told_of_elaboration};
-use plain_tree::Plain;
+use plain_projects::names::names_of;
+use plain_projects::{PlainProject, plain_project};
 use program_elaborator::{Refusal, Source, Terms, elaborate_with};
-use project_files::Project;
 use project_sources::{ModuleSource, Sources};
 use std::alloc::{AllocError, Global};
-use surface_grammar::Tree;
-use table_rows::Texts;
-
-/// The modules without sugar, in order.
-fn plains_of(alloc: Global, modules: &[ModuleSource]) -> Result<Vec<Plain>, AllocError> {
-    let mut plains = Vec::new(alloc);
-    for module in modules {
-        let tree = plain(alloc, &module.tree)?;
-        plains.push(tree)?;
-    }
-    Ok(plains)
-}
-
-/// The names of an interface.
-fn exported_by(alloc: Global, interface: &Tree) -> Result<Texts, AllocError> {
-    let interface = plain_interface(alloc, interface)?;
-    let mut names = Texts::new(alloc);
-    for signed in interface.items.iter() {
-        let name = signed.name.text.copy(alloc)?;
-        names.push(name)?;
-    }
-    Ok(names)
-}
-
-/// The names that the interface of the last module has, where it has one.
-fn exported_of(alloc: Global, modules: &[ModuleSource]) -> Result<Option<Texts>, AllocError> {
-    let Some(module) = modules.last() else {
-        return Ok(None);
-    };
-    match &module.interface {
-        Some(interface) => Ok(Some(exported_by(alloc, interface)?)),
-        None => Ok(None),
-    }
-}
-
-/// The rules on addresses.
-fn rules_of(alloc: Global, project: &Project) -> Result<Rules, AllocError> {
-    let mut rules = Rules::new(alloc);
-    for rule in project.rules.iter() {
-        let pattern = rule.pattern.copy(alloc)?;
-        let allow = rule.allow;
-        rules.push(Rule { allow, pattern })?;
-    }
-    Ok(rules)
-}
-
-/// The foreign effects.
-fn foreign_of(alloc: Global, project: &Project) -> Result<Foreigns, AllocError> {
-    let mut foreign = Foreigns::new(alloc);
-    for effect in project.effects.iter() {
-        let module = effect.owner.copy(alloc)?;
-        let name = effect.name.copy(alloc)?;
-        foreign.push(ForeignName { module, name })?;
-    }
-    Ok(foreign)
-}
 
 /// What inference begins with.
-fn source_of(alloc: Global, sources: &Sources) -> Result<Source, AllocError> {
-    let modules = sources.modules.as_slice();
+fn source_of(alloc: Global, sources: &Sources) -> Result<Source, AllocError>
+    ensures { IfOk result (λ source. (p : ProjectTrees) → ListsProject sources.now p → AreWhole p.modules
+        → (g : Pg) → says source.modules (map plain_view source.trees.items) source.exported (rules_view source.rules)
+        (foreigns_view source.foreign) g ≡ true → IsProgramOf p g) }
+{
+    let PlainProject {
+        names,
+        trees,
+        exported,
+        rules,
+        foreign,
+    } = plain_project(alloc, sources)?;
     Ok(Source {
-        modules: names_of(alloc, modules)?,
-        trees: plains_of(alloc, modules)?,
-        exported: exported_of(alloc, modules)?,
-        rules: rules_of(alloc, &sources.project)?,
-        foreign: foreign_of(alloc, &sources.project)?,
+        modules: names,
+        trees,
+        exported,
+        rules,
+        foreign,
     })
 }
 
@@ -121,7 +82,9 @@ fn elaborated<T: Terms + Drop>(
     terms: &T,
     sources: &Sources,
 ) -> Result<Program, BuildFault>
-    ensures { IsErrOf result BuildFault.ReadFault → ⊥ }
+    ensures told { IsErrOf result BuildFault.ReadFault → ⊥ }
+    ensures source { IfOk result (λ g. (p : ProjectTrees) → ListsProject sources.now p → AreWhole p.modules
+        → IsProgramOf p (program_view g)) }
 {
     let source = source_of(alloc, sources)?;
     match elaborate_with(alloc, terms, source) {
@@ -133,6 +96,7 @@ fn elaborated<T: Terms + Drop>(
 /// The program, where the checker keeps it.
 fn kept(alloc: Global, modules: &[ModuleSource], program: Program) -> Result<Program, BuildFault>
     ensures told { IsErrOf result BuildFault.ReadFault → ⊥ }
+    ensures same { IfOk result (λ p. p ≡ program) }
     ensures accepted { IfOk result (λ p. Accepts (program_view p)) }
 {
     match checked(alloc, program) {
@@ -153,6 +117,8 @@ pub(crate) fn site_of<T: Terms + Drop>(
 ) -> Result<Site, BuildFault>
     ensures told { IsErrOf result BuildFault.ReadFault → ⊥ }
     ensures accepted { IfOk result (λ s. Accepts (program_view s.program)) }
+    ensures source { IfOk result (λ s. (p : ProjectTrees) → ListsProject sources.now p → AreWhole p.modules
+        → IsProgramOf p (program_view s.program)) }
 {
     let modules = sources.modules.as_slice();
     are_built(alloc, modules)?;

@@ -2,6 +2,7 @@
 ghost use Rattle.std.specs.Prelude.{IfOk};
 ghost use Rattle.core_terms.specs.Trees.{Pg};
 ghost use Rattle.core_typing.specs.Accepts.{Accepts};
+ghost use Rattle.site_build.specs.Sources.{IsProgramOfText};
 ghost use Rattle.site_pages.specs.Lengths.{IsShort};
 ghost use Rattle.site_pages.specs.Shown.{IsShown};
 ghost use Rattle.xml_trees.specs.Trees.{IsWhole, built, trees_of};
@@ -14,9 +15,10 @@ use std::alloc::{AllocError, Global};
 use xml_trees::Page;
 
 /// The page that a module alone shows at its `main`, or the line that says why it has none. It is the page that an
-/// accepted program means.
+/// accepted program means that is what the module says.
 pub fn page_of_text<T: Terms + Drop>(alloc: Global, terms: &T, bytes: &[u8]) -> Result<Page, NoPage>
-    ensures shown { IfOk result (λ page. (p : Pg) × Accepts p × IsShown p (trees_of (built page))) }
+    ensures shown { IfOk result (λ page. (p : Pg)
+        × IsProgramOfText bytes.now p × Accepts p × IsShown p (trees_of (built page))) }
     ensures whole { IfOk result (λ page. IsWhole (built page)) }
     ensures short { IfOk result (λ page. IsShort (written (trees_of (built page)))) }
 {

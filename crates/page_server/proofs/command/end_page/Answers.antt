@@ -47,5 +47,5 @@ returns-in-Err-OtherForm-clause-front g c done =
     let fault = c.in-Err-OtherForm.field-0 in
     let other : fault ≡ OtherForm = cc c.in-Err-OtherForm.field-0-is in
     let refused : IsRefused v fault = subst (λ (l : List ℕ). IsRefused l fault) c.deref.ensures.value c.in-Err-OtherForm.ensures.refused in
-    other_front _ _ _ _ v c.in-Ok.ensures.bytes (λ h. c.in-Ok.ensures.end (omega (arith, h, c.in-Ok.bytes.ok.0)))
-    (subst (λ (f : ModuleFault). IsRefused v f) other refused) (c.end_other.ensures.front done)
+    other_front _ _ _ _ v c.deref-in-Err-OtherForm.result.now c.in-Ok.ensures.bytes (λ h. c.in-Ok.ensures.end (omega (arith, h, c.in-Ok.bytes.ok.0)))
+    (subst (λ (f : ModuleFault). IsRefused v f) other refused) c.deref-in-Err-OtherForm.ensures.value (c.end_other.ensures.front done)

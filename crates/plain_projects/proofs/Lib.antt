@@ -1,0 +1,2 @@
+-- Modules, one after the other.
+pub mod Sources
