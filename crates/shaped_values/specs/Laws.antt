@@ -1,0 +1,112 @@
+-- What patterns that cover mean when a program runs.
+use Rattle.std.specs.Prelude.{◌≡◌, ℕ, Bool, true, false, ◌≤◌, List, Some, None, ◌⊎◌}
+use Rattle.con_terms.specs.Trees.{Cn, name}
+use Rattle.core_terms.specs.Trees.{Ex, Pt, pattern, Pf, any, binds, is_number, is_text, is_bare, is_holding, has_fields, annotated, Pfs, no_pat_fields, pat_field, Dt, Brs, no_branches, branch}
+use Rattle.core_typing.specs.Scopes.{Sc, normal_of}
+use Rattle.core_typing.specs.Cover.{Shp, ShapeOf, pattern_depth, takes, Covers}
+use Rattle.core_typing.specs.PatternFaults.{PatFound}
+use Rattle.core_typing.specs.Own.{PatsFound}
+use Rattle.core_typing.specs.Typed.{branch_patterns}
+use Rattle.core_meaning.specs.Values.{V, Ev, done, more, constructors_in, env_with}
+use Rattle.core_meaning.specs.Matching.{Taken, matched}
+use Rattle.core_meaning.specs.Applied.{Rn, Next}
+use Rattle.core_meaning.specs.Meaning.{walk, walk_branches}
+use Rattle.shaped_values.specs.Values.{IsName, IsOf, HasShape}
+
+-- Each value of a type has one of the type's shapes, down to each depth.
+abbrev pub EachValueHasAShape : Type 0
+EachValueHasAShape = (ds : List Dt) (cs : List Cn) (t : Cn) (v : V) (d : ℕ) → IsOf ds cs t v
+    → (s : Shp) × ShapeOf ds d t s × HasShape cs v s
+
+abbrev mutual
+  -- each name of a field in a pattern is in the environment what its normal form is there
+  pub NamesHold : List Cn → Pt → Type 0
+  NamesHold cs (pattern p f) = NamesInHold cs f
+
+  pub NamesInHold : List Cn → Pf → Type 0
+  NamesInHold cs any = Unit {0}
+  NamesInHold cs (binds x w t) = Unit {0}
+  NamesInHold cs (is_number z) = Unit {0}
+  NamesInHold cs (is_text t) = Unit {0}
+  NamesInHold cs (is_bare s j) = Unit {0}
+  NamesInHold cs (is_holding s j p) = NamesHold cs p
+  NamesInHold cs (has_fields fs more') = NamesOfHold cs fs
+  NamesInHold cs (annotated p t) = NamesHold cs p
+
+  pub NamesOfHold : List Cn → Pfs → Type 0
+  NamesOfHold cs no_pat_fields = Unit {0}
+  NamesOfHold cs (pat_field p n q fs) =
+      ((m : Cn) (x : ℕ) → normal_of n ≡ Some m → IsName cs m x → IsName cs n x) × NamesHold cs q
+      × NamesOfHold cs fs
+
+abbrev mutual
+  -- each name of a field in a pattern is a literal
+  pub NamesAreLiteral : Pt → Type 0
+  NamesAreLiteral (pattern p f) = NamesInAreLiteral f
+
+  pub NamesInAreLiteral : Pf → Type 0
+  NamesInAreLiteral any = Unit {0}
+  NamesInAreLiteral (binds x w t) = Unit {0}
+  NamesInAreLiteral (is_number z) = Unit {0}
+  NamesInAreLiteral (is_text t) = Unit {0}
+  NamesInAreLiteral (is_bare s j) = Unit {0}
+  NamesInAreLiteral (is_holding s j p) = NamesAreLiteral p
+  NamesInAreLiteral (has_fields fs more') = NamesOfAreLiteral fs
+  NamesInAreLiteral (annotated p t) = NamesAreLiteral p
+
+  pub NamesOfAreLiteral : Pfs → Type 0
+  NamesOfAreLiteral no_pat_fields = Unit {0}
+  NamesOfAreLiteral (pat_field p n q fs) = ((x : ℕ) × (n ≡ name x)) × NamesAreLiteral q × NamesOfAreLiteral fs
+
+-- The names of fields in a pattern hold in each environment where they are literals.
+abbrev pub LiteralNamesHold : Type 0
+LiteralNamesHold = (cs : List Cn) (p : Pt) → NamesAreLiteral p → NamesHold cs p
+
+-- a value is taken or isn't, as a test tells, or more steps are needed
+pub data AsTold : Bool → Taken → Type 0 where
+  steps_end : {t : Bool} → AsTold t more
+  is_taken : {vs : List V} {l : ℕ} → AsTold true (done (Some vs) l)
+  is_not_taken : {l : ℕ} → AsTold false (done None l)
+
+-- A pattern that is found at a type takes a value of it where it takes the value's shape, and else doesn't take it; so
+-- that a case of the meaning is lacking for none.
+abbrev pub PatternsTakeWhatShapesSay : Type 0
+PatternsTakeWhatShapesSay = (G : Sc) (cs : List Cn) (p : Pt) (t : Cn) (ts : List Cn) (v : V) (d : ℕ) (s : Shp) (b : ℕ)
+    → PatFound G p t ts
+    → NamesHold cs p
+    → IsOf G.datatypes cs t v
+    → pattern_depth p ≤ d
+    → ShapeOf G.datatypes d t s
+    → HasShape cs v s
+    → AsTold (takes p s) (matched cs p v b)
+
+-- the names in the patterns of all branches hold
+abbrev pub NamesOfBranchesHold : List Cn → Brs → Type 0
+NamesOfBranchesHold cs no_branches = Unit {0}
+NamesOfBranchesHold cs (branch p q e bs) = NamesHold cs q × NamesOfBranchesHold cs bs
+
+-- one of these branches has this pattern and this term
+abbrev pub IsBranch : Brs → Pt → Ex → Type 0
+IsBranch no_branches q e = ⊥
+IsBranch (branch p r d bs) q e = ((r ≡ q) × (d ≡ e)) ⊎ IsBranch bs q e
+
+-- what the branches come to is what the term of one comes to, whose pattern takes the value
+pub record TakesABranch (P : Rn) (k : Next) (v : V) (bs : Brs) (ρ : Ev) (b : ℕ) : Type 0 where
+  pub p : Pt
+  pub e : Ex
+  pub is_one : IsBranch bs p e
+  pub steps : ℕ
+  pub values : List V
+  pub left : ℕ
+  pub takes_it : matched (constructors_in ρ) p v steps ≡ done (Some values) left
+  pub goes_on : walk_branches P k v bs ρ b ≡ walk P k e (env_with values ρ) left
+
+-- Where the patterns of branches are found at a type and cover, each value of the type takes a branch, or more steps
+-- are needed to find it.
+abbrev pub CoveringCasesTakeABranch : Type 0
+CoveringCasesTakeABranch = (G : Sc) (t : Cn) (bs : Brs) (P : Rn) (k : Next) (v : V) (ρ : Ev) (b : ℕ)
+    → PatsFound G t (branch_patterns bs)
+    → Covers G.datatypes (branch_patterns bs) t
+    → NamesOfBranchesHold (constructors_in ρ) bs
+    → IsOf G.datatypes (constructors_in ρ) t v
+    → (walk_branches P k v bs ρ b ≡ more) ⊎ TakesABranch P k v bs ρ b
