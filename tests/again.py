@@ -3,9 +3,10 @@
 
 What is printed of an accepted program is text of the language, with a blank between two tokens. In a literal of markup
 a blank would be a text of the page, so it is taken out there. Read as a source, that text has to be accepted, to print as
-itself (at the latest when it is read once more: a literal of one node stands in brackets the first time), and to have
-the page of the program that it was printed of. Not read again are programs that have what no source can write: a folder;
-a name that its module hides from what inference wrote; a term that nests deeper than a source may.
+itself (but for brackets at once, and wholly when it is read once more: a literal of one node stands in brackets the first
+time), and to have the page of the program that it was printed of, where that is run for its page. Excused are programs
+that have what no source can write: a folder, at whose place the text has to be refused, and those named below, which
+have to be refused by the line that stands there.
 
 usage: again.py PROGRAM FOLDER      the last line is `N programs read again, M not`
 """
@@ -20,12 +21,20 @@ from programs import shown, whole
 
 TOKEN = re.compile(r'"(?:[^"\\]|\\.)*"|\n|[^\s"]+')
 HEAD = "module Main\n"
-FOLDER = re.compile(r"\bfolder \[ (?:\]|\w+ [],])")
-DECLARED = re.compile(r"\b(?:val rec|val|and|datatype|con) (\w+)")
-BINDER = re.compile(r"\[ (\w+) :::? ")
-# what inference and sugar write by itself
-WRITTEN = set("""plus minus times divide mod neg eq ne lt le not show txt cdata join bind return strcat bool
-num_int eq_int eq_string eq_bool ord_int ord_string ord_bool show_int show_string show_bool""".split())
+FOLDER = re.compile(r"\bfolder \[ (?:\w+ )?$")
+# Programs that no source can write, but for those with a folder, and the line that refuses what is printed of them.
+UNWRITTEN = {
+    # inference wrote names of the basis that the module hides
+    "sugar means the basis, whatever a module declares": "Mismatch wanted t :: Type -> ( ) found int -> int -> int",
+    "names of one's own don't change what a literal means":
+        "Mismatch wanted t :: Type -> ( ) found string -> xml [ Body ] [ ] [ ]",
+    "an instance by its place is one of the basis still": "Mismatch wanted show int found int",
+    # a type is written whose name an inner parameter hides
+    "a type that an inner parameter of its name hides is kept apart": "Mismatch wanted t found t",
+    # a chain is printed as calls in one another
+    "a sum of 1,000 numbers": "TooDeep",
+    "1,000 texts that are put together": "TooDeep",
+}
 
 
 def as_source(text):
@@ -68,23 +77,38 @@ def page(program, text):
     return ran.returncode, ran.stdout
 
 
-def can_be_written(text, line):
-    """Whether a source can say what is printed, which the program refused with this line."""
-    names, binders = DECLARED.findall(text), BINDER.findall(text)
-    hides = bool(WRITTEN & set(names)) or len(set(binders)) < len(binders)
-    return not (FOLDER.search(text) or line.endswith("TooDeep\n") or hides and ": Mismatch" in line)
+def is_unwritten(name, source, line):
+    """Whether a source can't say what is printed: the program that it is refused by this line is known, or it is refused at
+    a folder."""
+    found = re.fullmatch(r"main\.ur:(\d+): (.*)\n", line)
+    if not found:
+        return False
+    before = source.encode()[:int(found[1])].decode("utf-8", "replace")
+    return UNWRITTEN.get(name) == found[2] or found[2] == "Syntax" and bool(FOLDER.search(before))
+
+
+def without_brackets(text):
+    return [it for it in TOKEN.findall(text) if it not in "()"]
+
+
+def prints_as(program, first, second):
+    """Whether what is printed of a text that was printed is that text: at the latest when it is read once more, and but for
+    brackets at once."""
+    if second == first:
+        return True
+    return without_brackets(second) == without_brackets(first) and explicit(program, as_source(second))[0] == second
 
 
 def fault(program, it):
-    """What differs when a program is printed and read again; None where nothing does, "" where it can't be written."""
+    """What differs when a program is printed and read again; None where nothing does, "" where no source can write it."""
     first, _ = explicit(program, it.text)
     if first is None:
         return "isn't accepted"
     source = as_source(first)
     second, line = explicit(program, source)
     if second is None:
-        return f"{line!r} refuses {source[:300]!r}" if can_be_written(source, line) else ""
-    if second != first and explicit(program, as_source(second))[0] != second:
+        return "" if is_unwritten(it.where.rpartition(": ")[2], source, line) else f"{line!r} refuses {source[:300]!r}"
+    if not prints_as(program, first, second):
         return f"prints as {second[:300]!r} in place of {first[:300]!r}"
     if it.command == "page" and page(program, source) != page(program, it.text):
         return f"another page of {source[:300]!r}"
@@ -102,7 +126,7 @@ def main(program, folder):
             done, failed, left = done + (found is None), failed + bool(found), left + (found == "")
             if found:
                 print(f"program {it.where}: {found}")
-    print(f"{left} programs can't be written as a source")
+    print(f"{left} programs can't be written as a source, as is known of them")
     print(f"{done} programs read again, {failed or int(not done)} not")
     return 1 if failed or not done else 0
 

@@ -1,4 +1,4 @@
-//! The laws of answers: at each number of steps a request has one at least.
+//! The laws of answers: at each number of steps a request of an accepted program has one at least, with its routes.
 ghost use Rattle.answered_requests.specs.Laws.{EachRequestIsAnswered, NoRequestIsWithoutAnswer, RoutesAreNotMissing};
 
 /// Each request of an accepted program, with the program's routes, has an answer within each number of steps.

@@ -1,4 +1,4 @@
-//! That each request of an accepted program has an answer: the laws that say so.
+//! That each request of an accepted program has an answer, with the program's routes: the laws that say so.
 #![tactic(auto)]
 
 pub mod laws;

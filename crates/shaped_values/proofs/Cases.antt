@@ -6,12 +6,12 @@ use Rattle.core_typing.specs.Scopes.{Sc}
 use Rattle.core_typing.specs.Cover.{Shp, ShapeOf, pattern_depth, patterns_depth, takes, one_takes}
 use Rattle.core_typing.specs.Own.{PatsFound, a_pat}
 use Rattle.core_typing.specs.Typed.{branch_patterns}
-use Rattle.core_meaning.specs.Values.{V, Ev, Out, more, then_do, constructors_in, env_with}
+use Rattle.core_meaning.specs.Values.{V, Ev, Out, then_do, constructors_in, env_with}
 use Rattle.core_meaning.specs.Matching.{Taken, matched}
 use Rattle.core_meaning.specs.Applied.{Rn, Next}
 use Rattle.core_meaning.specs.Meaning.{walk, walk_branches, chosen}
 use Rattle.shaped_values.specs.Values.{IsOf, HasShape}
-use Rattle.shaped_values.specs.Laws.{AsTold, steps_end, is_taken, is_not_taken, NamesOfBranchesHold, IsBranch, TakesABranch, CoveringCasesTakeABranch}
+use Rattle.shaped_values.specs.Laws.{AsTold, steps_end, is_taken, is_not_taken, NamesOfBranchesHold, IsBranch, RunsOut, TakesABranch, CoveringCasesTakeABranch}
 use Rattle.shaped_values.proofs.Shaped.{some_shape}
 use Rattle.shaped_values.proofs.Taken.{as_told}
 
@@ -23,9 +23,16 @@ right_depth m n d h = grind (arith, h)
 
 -- a branch more before the others
 behind : {P : Rn} {k : Next} {v : V} {bs : Brs} {ρ : Ev} {b c : ℕ} (w : Brs) → ((q : Pt) (e : Ex) → IsBranch bs q e → IsBranch w q e)
-    → walk_branches P k v w ρ b ≡ walk_branches P k v bs ρ c → (walk_branches P k v bs ρ c ≡ more) ⊎ TakesABranch P k v bs ρ c
-    → (walk_branches P k v w ρ b ≡ more) ⊎ TakesABranch P k v w ρ b
-behind w f e (inl h) = inl (e ∙ h)
+    → walk_branches P k v w ρ b ≡ walk_branches P k v bs ρ c → RunsOut P k v bs ρ c ⊎ TakesABranch P k v bs ρ c
+    → RunsOut P k v w ρ b ⊎ TakesABranch P k v w ρ b
+behind w f e (inl h) = inl (record {
+  p = h.p;
+  e = h.e;
+  is_one = f h.p h.e h.is_one;
+  steps = h.steps;
+  needs_more = h.needs_more;
+  comes_to = e ∙ h.comes_to;
+})
 behind w f e (inr h) = inr (record {
   p = h.p;
   e = h.e;
@@ -38,8 +45,8 @@ behind w f e (inr h) = inr (record {
 })
 
 pub takes_one : {G : Sc} {t : Cn} (bs : Brs) (P : Rn) (k : Next) (v : V) (ρ : Ev) (d : ℕ) (s : Shp) (b : ℕ) → PatsFound G t (branch_patterns bs) → NamesOfBranchesHold (constructors_in ρ) bs
-    → IsOf G.datatypes (constructors_in ρ) t v → patterns_depth (branch_patterns bs) ≤ d → ShapeOf G.datatypes d t s → HasShape (constructors_in ρ) v s
-    → one_takes (branch_patterns bs) s ≡ true → (walk_branches P k v bs ρ b ≡ more) ⊎ TakesABranch P k v bs ρ b
+    → IsOf G.datatypes (constructors_in ρ) d t v → patterns_depth (branch_patterns bs) ≤ d → ShapeOf G.datatypes d t s → HasShape (constructors_in ρ) v s
+    → one_takes (branch_patterns bs) s ≡ true → RunsOut P k v bs ρ b ⊎ TakesABranch P k v bs ρ b
 takes_one no_branches P k v ρ d s b f i o l h g e = cc
 takes_one {G} {t} (branch p q e bs) P k v ρ d s b (a_pat f fs) (i, is) o l h g one =
     by_told (λ u r. takes_one bs P k v ρ d s r fs is o (right_depth (pattern_depth q) (patterns_depth (branch_patterns bs)) d l) h g
@@ -49,9 +56,16 @@ takes_one {G} {t} (branch p q e bs) P k v ρ d s b (a_pat f fs) (i, is) o l h g 
     go : Option (List V) → ℕ → Out V
     go o m = chosen o m (λ vs r. walk P k e (env_with vs ρ) r) (λ r. walk_branches P k v bs ρ r)
 
-    by_told : (takes q s ≡ false → (r : ℕ) → (walk_branches P k v bs ρ r ≡ more) ⊎ TakesABranch P k v bs ρ r) → (c : Bool) (x : Taken) → takes q s ≡ c → matched (constructors_in ρ) q v b ≡ x → AsTold c x
-        → (walk_branches P k v (branch p q e bs) ρ b ≡ more) ⊎ TakesABranch P k v (branch p q e bs) ρ b
-    by_told others c _ u w steps_end = inl (ap (λ y. then_do y go) w)
+    by_told : (takes q s ≡ false → (r : ℕ) → RunsOut P k v bs ρ r ⊎ TakesABranch P k v bs ρ r) → (c : Bool) (x : Taken) → takes q s ≡ c → matched (constructors_in ρ) q v b ≡ x → AsTold c x
+        → RunsOut P k v (branch p q e bs) ρ b ⊎ TakesABranch P k v (branch p q e bs) ρ b
+    by_told others c _ u w steps_end = inl (record {
+      p = q;
+      e = e;
+      is_one = inl (refl, refl);
+      steps = b;
+      needs_more = w;
+      comes_to = ap (λ y. then_do y go) w;
+    })
     by_told others _ _ u w (is_taken {vs = vs} {l = r}) = inr (record {
       p = q;
       e = e;

@@ -121,7 +121,7 @@ pub record AtField (ds : List Dt) (cs : List Cn) (d : ℕ) (vs : Slots) (n t : C
   pub value : V
   pub named : IsName cs n symbol
   pub stands : slot_at vs symbol ≡ Some value
-  pub is : IsOf ds cs t value
+  pub is : IsOf ds cs d t value
   pub shape : ShapeOf ds d t s
   pub has : HasShape cs value s
 
@@ -133,7 +133,7 @@ not_named cs ((m, u) ∷ fs) x n t (h, hs) i (inr a) = not_named cs fs x n t hs 
 same_value : (vs : Slots) {x y : ℕ} {v u : V} → slot_at vs x ≡ Some v → slot_at vs y ≡ Some u → x ≡ y → v ≡ u
 same_value vs e f q = some_is (sym e ∙ ap (slot_at vs) q ∙ f)
 
-pub at_field : {ds : List Dt} {cs : List Cn} {d : ℕ} {fs : List (Cn × Cn)} {vs : Slots} {ss : Shf} (n t : Cn) → AreOf ds cs fs vs → ShapesOf ds d fs ss → HaveShapes cs vs ss
+pub at_field : {ds : List Dt} {cs : List Cn} {d : ℕ} {fs : List (Cn × Cn)} {vs : Slots} {ss : Shf} (n t : Cn) → AreOf ds cs d fs vs → ShapesOf ds d fs ss → HaveShapes cs vs ss
     → Among fs n t → AtField ds cs d vs n t (shape_at ss n)
 at_field {ds} {cs} {d} {vs = vs} n t (one_field {n = m} {t = u} {x = x} {v = v} {fs = fs} i none e h r) (cover.of_field {s = s} {ss = ss} is are) (field_has {x = y} {v = w} j f has have) a = by_test (λ b. at_field n t r are have b) (cn_eq m n) refl a
   where
@@ -143,7 +143,7 @@ at_field {ds} {cs} {d} {vs = vs} n t (one_field {n = m} {t = u} {x = x} {v = v} 
       value = v;
       named = subst (λ c. IsName cs c x) same i;
       stands = e;
-      is = subst (λ c. IsOf ds cs c v) type h;
+      is = subst (λ c. IsOf ds cs d c v) type h;
       shape = subst (λ c. ShapeOf ds d c s) type is;
       has = subst (λ z. HasShape cs z s) (same_value vs f e (one_symbol j i)) has;
     }

@@ -7,7 +7,7 @@ use Rattle.core_terms.specs.Trees.{Pt, pattern, Pf, any, binds, is_number, is_te
 use Rattle.core_typing.specs.Scopes.{normal_of}
 use Rattle.core_meaning.specs.Values.{Out, done, more, closed, reduced_in, as_name, then_do, name_in}
 use Rattle.shaped_values.specs.Values.{IsName}
-use Rattle.shaped_values.specs.Laws.{NamesHold, NamesInHold, NamesOfHold, NamesAreLiteral, NamesInAreLiteral, NamesOfAreLiteral}
+use Rattle.shaped_values.specs.Laws.{NamesHold, NamesInHold, NamesOfHold, NamesAreLiteral, NamesInAreLiteral, NamesOfAreLiteral, NamesAreNormal, NamesInAreNormal, NamesOfAreNormal}
 
 some_is : {X : Type 0} {x y : X} → Some x ≡ Some y → x ≡ y
 some_is e = cc
@@ -38,7 +38,7 @@ literal_closed : (cs : List Cn) (s : ℕ) → closed cs (name s) ≡ name s
 literal_closed [] s = refl
 literal_closed (c ∷ cs) s = literal_closed cs s
 
-literal_found : (cs : List Cn) (s b : ℕ) → name_in cs (name s) b ≡ done s b
+pub literal_found : (cs : List Cn) (s b : ℕ) → name_in cs (name s) b ≡ done s b
 literal_found cs s b =
     let one : suc b - 1 ≡ b = omega arith in
     ap (λ c. then_do (reduced_in [] c b) (λ n l. as_name n l)) (literal_closed cs s) ∙ ap (λ l. done s l) one
@@ -69,3 +69,25 @@ mutual
   literals_of_hold : (cs : List Cn) (fs : Pfs) → NamesOfAreLiteral fs → NamesOfHold cs fs
   literals_of_hold cs no_pat_fields h = tt
   literals_of_hold cs (pat_field p n q fs) ((s, e), h, g) = (literal_holds cs n s e, literals_hold cs q h, literals_of_hold cs fs g)
+
+-- what is in normal form is what its normal form is
+normal_holds : (cs : List Cn) (n : Cn) → normal_of n ≡ Some n → (m : Cn) (x : ℕ) → normal_of n ≡ Some m → IsName cs m x → IsName cs n x
+normal_holds cs n e m x f h = subst (λ c. IsName cs c x) (some_is (sym f ∙ e)) h
+
+mutual
+  pub normals_hold : (cs : List Cn) (p : Pt) → NamesAreNormal p → NamesHold cs p
+  normals_hold cs (pattern p f) h = normals_in_hold cs f h
+
+  normals_in_hold : (cs : List Cn) (f : Pf) → NamesInAreNormal f → NamesInHold cs f
+  normals_in_hold cs any h = tt
+  normals_in_hold cs (binds x w t) h = tt
+  normals_in_hold cs (is_number z) h = tt
+  normals_in_hold cs (is_text t) h = tt
+  normals_in_hold cs (is_bare s j) h = tt
+  normals_in_hold cs (is_holding s j p) h = normals_hold cs p h
+  normals_in_hold cs (has_fields fs b) h = normals_of_hold cs fs h
+  normals_in_hold cs (annotated p t) h = normals_hold cs p h
+
+  normals_of_hold : (cs : List Cn) (fs : Pfs) → NamesOfAreNormal fs → NamesOfHold cs fs
+  normals_of_hold cs no_pat_fields h = tt
+  normals_of_hold cs (pat_field p n q fs) (e, h, g) = (normal_holds cs n e, normals_hold cs q h, normals_of_hold cs fs g)

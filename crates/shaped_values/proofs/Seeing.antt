@@ -19,7 +19,7 @@ use Rattle.core_typing.specs.Seen.{Seen, a_number, a_text, a_datatype, a_record,
 use Rattle.core_typing.specs.Cover as cover
 use Rattle.core_typing.specs.Cover.{Shp, leaf, number_shape, text_shape, bare_shape, holding_shape, record_shape, Shf, ShapeOf, ShapesOf}
 use Rattle.core_meaning.specs.Values.{V}
-use Rattle.shaped_values.specs.Values.{IsOf, at_form, IsOfSeen}
+use Rattle.shaped_values.specs.Values.{IsOf, deeper, at_form, IsOfSeen}
 
 some_is : {X : Type 0} {x y : X} → Some x ≡ Some y → x ≡ y
 some_is e = cc
@@ -49,11 +49,11 @@ shape_seen {ds} {d} {t = t} {s = s} (cover.of_bare e p i j) f q = subst (λ y. S
 shape_seen {ds} {d} {t = t} {s = s} (cover.of_holding e p i j h) f q = subst (λ y. ShapeSeen ds d y s) (seen_once ds t e p f q) (holding_seen i j h)
 shape_seen {ds} {d} {t = t} {s = s} (cover.of_record e p h) f q = subst (λ y. ShapeSeen ds d y s) (seen_once ds t e p f q) (record_seen h)
 
-pub value_seen : {ds : List Dt} {cs : List Cn} {t n : Cn} {x : Seen} {v : V} → IsOf ds cs t v → normal_of t ≡ Some n → seen ds n ≡ x → IsOfSeen ds cs x v
-value_seen {ds} {cs} {t = t} {v = v} (at_form e o) f q = subst (λ y. IsOfSeen ds cs y v) (seen_once ds t e refl f q) o
+pub value_seen : {ds : List Dt} {cs : List Cn} {d : ℕ} {t n : Cn} {x : Seen} {v : V} → IsOf ds cs (suc d) t v → normal_of t ≡ Some n → seen ds n ≡ x → IsOfSeen ds cs d x v
+value_seen {ds} {cs} {d} {t = t} {v = v} (at_form e o) f q = subst (λ y. IsOfSeen ds cs d y v) (seen_once ds t e refl f q) o
 
 -- there is a normal form
-pub form_of : {ds : List Dt} {cs : List Cn} {t : Cn} {v : V} → IsOf ds cs t v → (n : Cn) × (normal_of t ≡ Some n)
+pub form_of : {ds : List Dt} {cs : List Cn} {d : ℕ} {t : Cn} {v : V} → IsOf ds cs (suc d) t v → (n : Cn) × (normal_of t ≡ Some n)
 form_of (at_form {n = n} e o) = (n, e)
 
 -- int and string are seen as such
@@ -115,7 +115,8 @@ other_form {t} {u} {n} a f =
     ap (λ o. elim o [ None ↦ None | Some s ↦ Some s.0 ]) h ∙ sym (first_form t u a.forms) ∙ f
 
 -- has its values
-pub other_value : {ds : List Dt} {cs : List Cn} {t u : Cn} {v : V} → Alike t u → IsOf ds cs t v → IsOf ds cs u v
+pub other_value : {ds : List Dt} {cs : List Cn} {d : ℕ} {t u : Cn} {v : V} → Alike t u → IsOf ds cs d t v → IsOf ds cs d u v
+other_value a deeper = deeper
 other_value a (at_form e o) = at_form (other_form a e) o
 
 -- and its shapes

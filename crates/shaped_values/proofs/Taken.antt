@@ -26,11 +26,11 @@ by_test : (t : Bool) (b : ℕ) → AsTold t (takes_if t b)
 by_test true b = is_taken
 by_test false b = is_not_taken
 
-number_told : {ds : List Dt} {cs : List Cn} {d : ℕ} (z : ℤ) {v : V} {s : Shp} (b : ℕ) → IsOfSeen ds cs a_number v → ShapeSeen ds d a_number s → HasShape cs v s
+number_told : {ds : List Dt} {cs : List Cn} {d : ℕ} (z : ℤ) {v : V} {s : Shp} (b : ℕ) → IsOfSeen ds cs d a_number v → ShapeSeen ds d a_number s → HasShape cs v s
     → AsTold (form_takes (is_number z) s) (matched_form cs (is_number z) v b)
 number_told z b (values.is_number {z = y} f) number_seen number_has = by_test (int_eq z y) b
 
-text_told : {ds : List Dt} {cs : List Cn} {d : ℕ} (w : List ℕ) {v : V} {s : Shp} (b : ℕ) → IsOfSeen ds cs a_text v → ShapeSeen ds d a_text s → HasShape cs v s
+text_told : {ds : List Dt} {cs : List Cn} {d : ℕ} (w : List ℕ) {v : V} {s : Shp} (b : ℕ) → IsOfSeen ds cs d a_text v → ShapeSeen ds d a_text s → HasShape cs v s
     → AsTold (form_takes (is_text w) s) (matched_form cs (is_text w) v b)
 text_told w b (values.is_text {w = y} f) text_seen text_has = by_test (bytes_eq w y) b
 
@@ -52,7 +52,7 @@ inverted bare_has = (refl, refl)
 inverted (holding_has h) = (refl, (refl, h))
 inverted (record_has h) = tt
 
-bare_told : {ds : List Dt} {cs : List Cn} {d : ℕ} (x j : ℕ) {e : Dt} {args : List Cn} {v : V} {s : Shp} (b : ℕ) → IsOfSeen ds cs (a_datatype e args) v → ShapeSeen ds d (a_datatype e args) s
+bare_told : {ds : List Dt} {cs : List Cn} {d : ℕ} (x j : ℕ) {e : Dt} {args : List Cn} {v : V} {s : Shp} (b : ℕ) → IsOfSeen ds cs d (a_datatype e args) v → ShapeSeen ds d (a_datatype e args) s
     → HasShape cs v s → AsTold (form_takes (is_bare x j) s) (matched_form cs (is_bare x j) v b)
 bare_told x j {e} b (values.is_bare {j = i} f g) (bare_seen {j = k}) has =
     let place : i ≡ k = (inverted has).1 in
@@ -64,8 +64,8 @@ bare_told x j b (values.is_holding f g h) (holding_seen k l m) has = is_not_take
 -- what a constructor holds
 holding_told : {ds : List Dt} {cs : List Cn} {d : ℕ} (x j : ℕ) (q : Pt) {e : Dt} {args : List Cn} {c : Cd} {held : Cn} {v : V} {s : Shp} (b : ℕ)
     → slice_get e.constructors j ≡ Some c → c.holds ≡ Some held
-    → ((u : V) (r : Shp) → IsOf ds cs (held_at args held) u → ShapeOf ds d (held_at args held) r → HasShape cs u r → AsTold (takes q r) (matched cs q u b))
-    → IsOfSeen ds cs (a_datatype e args) v → ShapeSeen ds d (a_datatype e args) s → HasShape cs v s
+    → ((u : V) (r : Shp) → IsOf ds cs d (held_at args held) u → ShapeOf ds d (held_at args held) r → HasShape cs u r → AsTold (takes q r) (matched cs q u b))
+    → IsOfSeen ds cs d (a_datatype e args) v → ShapeSeen ds d (a_datatype e args) s → HasShape cs v s
     → AsTold (form_takes (is_holding x j q) s) (matched_form cs (is_holding x j q) v b)
 holding_told x j q b i k go (values.is_bare f g) bare_seen has = is_not_taken
 holding_told x j q b i k go (values.is_bare f g) (holding_seen l m n) has = absurd (inverted has)
@@ -82,7 +82,7 @@ holding_told {ds} {cs} {d} x j q {e} {args} {c} {held} b i k go (values.is_holdi
         let two : c₂ ≡ c = some_is (sym f₂ ∙ ap (slice_get e.constructors) (sym (inverted has).1.0) ∙ there) in
         let first : held₁ ≡ held = some_is (sym g ∙ ap (λ (y : Cd). y.holds) one ∙ k) in
         let second : held₂ ≡ held = some_is (sym g₂ ∙ ap (λ (y : Cd). y.holds) two ∙ k) in
-        go u r (subst (λ y. IsOf ds cs (held_at args y) u) first h) (subst (λ y. ShapeOf ds d (held_at args y) r) second h₂) (inverted has).1.1
+        go u r (subst (λ y. IsOf ds cs d (held_at args y) u) first h) (subst (λ y. ShapeOf ds d (held_at args y) r) second h₂) (inverted has).1.1
 
 -- what is taken by one pattern and then by others
 with_others : {d : Bool} {o : Taken} (ts : List V) → AsTold d o
@@ -124,13 +124,13 @@ right_depth m n d h = grind (arith, h)
 
 -- a record, whose fields are taken so
 record_told : {ds : List Dt} {cs : List Cn} (fs : Pfs) (whole : Bool) (r : Cn) {v : V} {d : ℕ} {s : Shp} (b : ℕ)
-    → ((vs : Slots) (ss : Shf) → AreOf ds cs (named_fields r) vs → ShapesOf ds d (named_fields r) ss → HaveShapes cs vs ss → AsTold (fields_take fs ss) (matched_fields cs fs vs b))
-    → IsOfSeen ds cs (a_record (named_fields r)) v → ShapeSeen ds d (a_record (named_fields r)) s → HasShape cs v s
+    → ((vs : Slots) (ss : Shf) → AreOf ds cs d (named_fields r) vs → ShapesOf ds d (named_fields r) ss → HaveShapes cs vs ss → AsTold (fields_take fs ss) (matched_fields cs fs vs b))
+    → IsOfSeen ds cs d (a_record (named_fields r)) v → ShapeSeen ds d (a_record (named_fields r)) s → HasShape cs v s
     → AsTold (form_takes (has_fields fs whole) s) (matched_form cs (has_fields fs whole) v b)
 record_told fs whole r b go (values.is_record o) (record_seen h) (record_has g) = go _ _ o h g
 
 mutual
-  pub as_told : {G : Sc} {cs : List Cn} {p : Pt} {t : Cn} {ts : List Cn} {v : V} (d : ℕ) {s : Shp} (b : ℕ) → PatFound G p t ts → NamesHold cs p → IsOf G.datatypes cs t v
+  pub as_told : {G : Sc} {cs : List Cn} {p : Pt} {t : Cn} {ts : List Cn} {v : V} (d : ℕ) {s : Shp} (b : ℕ) → PatFound G p t ts → NamesHold cs p → IsOf G.datatypes cs d t v
       → pattern_depth p ≤ d → ShapeOf G.datatypes d t s → HasShape cs v s → AsTold (takes p s) (matched cs p v b)
   as_told d b any_binds i o l h g = is_taken
   as_told d b (binds_one k a) i o l h g = is_taken
@@ -158,7 +158,7 @@ mutual
   as_told d b (annotated_binds k a f) i o l h g = as_told d b f i (other_value a o) l (other_shape a h) g
 
   fields_told : {G : Sc} {cs : List Cn} {fs : Pfs} {ps rest ts : List Cn} {of : List (Cn × Cn)} {vs : Slots} {ss : Shf} (d : ℕ) (b : ℕ) → PatFieldsFound G fs ps rest ts
-      → AllIn of ps → NamesOfHold cs fs → fields_depth fs ≤ d → AreOf G.datatypes cs of vs → ShapesOf G.datatypes d of ss → HaveShapes cs vs ss
+      → AllIn of ps → NamesOfHold cs fs → fields_depth fs ≤ d → AreOf G.datatypes cs d of vs → ShapesOf G.datatypes d of ss → HaveShapes cs vs ss
       → AsTold (fields_take fs ss) (matched_fields cs fs vs b)
   fields_told d b none_bind a i l o h g = is_taken
   fields_told {G} {cs} {of = of} {vs = vs} {ss = ss} d b (one_binds {p = p} {n = n} {m = m} {v = u} {q = q} {fs = fs} {ps = ps} {qs = qs} k e f one rest) a (name_is, i, is) l o h g =

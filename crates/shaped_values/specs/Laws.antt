@@ -1,9 +1,9 @@
 -- What patterns that cover mean when a program runs.
-use Rattle.std.specs.Prelude.{◌≡◌, ℕ, Bool, true, false, ◌≤◌, List, Some, None, ◌⊎◌}
+use Rattle.std.specs.Prelude.{◌≡◌, ◌≢◌, ℕ, Bool, true, false, ◌≤◌, List, Some, None, ◌⊎◌}
 use Rattle.con_terms.specs.Trees.{Cn, name}
 use Rattle.core_terms.specs.Trees.{Ex, Pt, pattern, Pf, any, binds, is_number, is_text, is_bare, is_holding, has_fields, annotated, Pfs, no_pat_fields, pat_field, Dt, Brs, no_branches, branch}
 use Rattle.core_typing.specs.Scopes.{Sc, normal_of}
-use Rattle.core_typing.specs.Cover.{Shp, ShapeOf, pattern_depth, takes, Covers}
+use Rattle.core_typing.specs.Cover.{Shp, ShapeOf, pattern_depth, patterns_depth, takes, Covers}
 use Rattle.core_typing.specs.PatternFaults.{PatFound}
 use Rattle.core_typing.specs.Own.{PatsFound}
 use Rattle.core_typing.specs.Typed.{branch_patterns}
@@ -15,7 +15,7 @@ use Rattle.shaped_values.specs.Values.{IsName, IsOf, HasShape}
 
 -- Each value of a type has one of the type's shapes, down to each depth.
 abbrev pub EachValueHasAShape : Type 0
-EachValueHasAShape = (ds : List Dt) (cs : List Cn) (t : Cn) (v : V) (d : ℕ) → IsOf ds cs t v
+EachValueHasAShape = (ds : List Dt) (cs : List Cn) (t : Cn) (v : V) (d : ℕ) → IsOf ds cs d t v
     → (s : Shp) × ShapeOf ds d t s × HasShape cs v s
 
 abbrev mutual
@@ -58,7 +58,34 @@ abbrev mutual
   NamesOfAreLiteral no_pat_fields = Unit {0}
   NamesOfAreLiteral (pat_field p n q fs) = ((x : ℕ) × (n ≡ name x)) × NamesAreLiteral q × NamesOfAreLiteral fs
 
--- The names of fields in a pattern hold in each environment where they are literals.
+-- Steps suffice for matching a pattern whose names are literals, however few there are.
+abbrev pub LiteralPatternsNeedNoSteps : Type 0
+LiteralPatternsNeedNoSteps = (cs : List Cn) (p : Pt) (v : V) (b : ℕ) → NamesAreLiteral p → matched cs p v b ≢ more
+
+abbrev mutual
+  -- each name of a field in a pattern is in normal form, as literals and variables are
+  pub NamesAreNormal : Pt → Type 0
+  NamesAreNormal (pattern p f) = NamesInAreNormal f
+
+  pub NamesInAreNormal : Pf → Type 0
+  NamesInAreNormal any = Unit {0}
+  NamesInAreNormal (binds x w t) = Unit {0}
+  NamesInAreNormal (is_number z) = Unit {0}
+  NamesInAreNormal (is_text t) = Unit {0}
+  NamesInAreNormal (is_bare s j) = Unit {0}
+  NamesInAreNormal (is_holding s j p) = NamesAreNormal p
+  NamesInAreNormal (has_fields fs more') = NamesOfAreNormal fs
+  NamesInAreNormal (annotated p t) = NamesAreNormal p
+
+  pub NamesOfAreNormal : Pfs → Type 0
+  NamesOfAreNormal no_pat_fields = Unit {0}
+  NamesOfAreNormal (pat_field p n q fs) = (normal_of n ≡ Some n) × NamesAreNormal q × NamesOfAreNormal fs
+
+-- The names of fields in a pattern hold in each environment where they are in normal form.
+abbrev pub NormalNamesHold : Type 0
+NormalNamesHold = (cs : List Cn) (p : Pt) → NamesAreNormal p → NamesHold cs p
+
+-- So they do where they are literals.
 abbrev pub LiteralNamesHold : Type 0
 LiteralNamesHold = (cs : List Cn) (p : Pt) → NamesAreLiteral p → NamesHold cs p
 
@@ -68,13 +95,13 @@ pub data AsTold : Bool → Taken → Type 0 where
   is_taken : {vs : List V} {l : ℕ} → AsTold true (done (Some vs) l)
   is_not_taken : {l : ℕ} → AsTold false (done None l)
 
--- A pattern that is found at a type takes a value of it where it takes the value's shape, and else doesn't take it; so
--- that a case of the meaning is lacking for none.
+-- A pattern that is found at a type takes a value of it where it takes the value's shape, and else doesn't take it, if
+-- the steps suffice: no case of the meaning is lacking.
 abbrev pub PatternsTakeWhatShapesSay : Type 0
 PatternsTakeWhatShapesSay = (G : Sc) (cs : List Cn) (p : Pt) (t : Cn) (ts : List Cn) (v : V) (d : ℕ) (s : Shp) (b : ℕ)
     → PatFound G p t ts
     → NamesHold cs p
-    → IsOf G.datatypes cs t v
+    → IsOf G.datatypes cs d t v
     → pattern_depth p ≤ d
     → ShapeOf G.datatypes d t s
     → HasShape cs v s
@@ -101,12 +128,21 @@ pub record TakesABranch (P : Rn) (k : Next) (v : V) (bs : Brs) (ρ : Ev) (b : �
   pub takes_it : matched (constructors_in ρ) p v steps ≡ done (Some values) left
   pub goes_on : walk_branches P k v bs ρ b ≡ walk P k e (env_with values ρ) left
 
--- Where the patterns of branches are found at a type and cover, each value of the type takes a branch, or more steps
--- are needed to find it.
+-- the steps run out while the pattern of one of these branches is matched
+pub record RunsOut (P : Rn) (k : Next) (v : V) (bs : Brs) (ρ : Ev) (b : ℕ) : Type 0 where
+  pub p : Pt
+  pub e : Ex
+  pub is_one : IsBranch bs p e
+  pub steps : ℕ
+  pub needs_more : matched (constructors_in ρ) p v steps ≡ more
+  pub comes_to : walk_branches P k v bs ρ b ≡ more
+
+-- Where the patterns of branches are found at a type and cover, each value of the type takes a branch, if the steps
+-- suffice for matching: branches come to what the term of one comes to whose pattern takes the value.
 abbrev pub CoveringCasesTakeABranch : Type 0
 CoveringCasesTakeABranch = (G : Sc) (t : Cn) (bs : Brs) (P : Rn) (k : Next) (v : V) (ρ : Ev) (b : ℕ)
     → PatsFound G t (branch_patterns bs)
     → Covers G.datatypes (branch_patterns bs) t
     → NamesOfBranchesHold (constructors_in ρ) bs
-    → IsOf G.datatypes (constructors_in ρ) t v
-    → (walk_branches P k v bs ρ b ≡ more) ⊎ TakesABranch P k v bs ρ b
+    → IsOf G.datatypes (constructors_in ρ) (patterns_depth (branch_patterns bs)) t v
+    → RunsOut P k v bs ρ b ⊎ TakesABranch P k v bs ρ b

@@ -1,5 +1,5 @@
 -- Which values a type has, and which shapes a value has.
-use Rattle.std.specs.Prelude.{◌≡◌, ℕ, ℤ, List, [], ◌∷◌, Some, None, slice_get, IsUtf8, FitsSigned, ◌⊎◌}
+use Rattle.std.specs.Prelude.{◌≡◌, ℕ, zero, suc, ℤ, List, [], ◌∷◌, Some, None, slice_get, IsUtf8, FitsSigned, ◌⊎◌}
 use Rattle.std.specs.Int.{w64}
 use Rattle.std.specs.List.{AllByRecursion}
 use Rattle.con_terms.specs.Trees.{Cn}
@@ -23,47 +23,51 @@ abbrev pub NoneNamed : List Cn → ℕ → List (Cn × Cn) → Type 0
 NoneNamed cs x fs = AllByRecursion (λ (f : Cn × Cn). IsName cs f.0 x → ⊥) fs
 
 mutual
-  -- the values of a type, in an environment of constructors: those of its normal form
-  pub data IsOf (ds : List Dt) (cs : List Cn) : Cn → V → Type 0 where
-    at_form : {t n : Cn} {v : V}
+  -- What the normal form of a type lets its values be, down to a depth, in an environment of constructors; deeper it may
+  -- be any value. It says less than a typing: at the type of a function or a page, or at a variable, any value may stand.
+  pub data IsOf (ds : List Dt) (cs : List Cn) : ℕ → Cn → V → Type 0 where
+    -- below the depth: any value
+    deeper : {t : Cn} {v : V} → IsOf ds cs zero t v
+    at_form : {d : ℕ} {t n : Cn} {v : V}
         → normal_of t ≡ Some n
-        → IsOfSeen ds cs (seen ds n) v
-        → IsOf ds cs t v
+        → IsOfSeen ds cs d (seen ds n) v
+        → IsOf ds cs (suc d) t v
 
-  -- by what a normal form tells of them
-  pub data IsOfSeen (ds : List Dt) (cs : List Cn) : Seen → V → Type 0 where
-    -- a function, a page, a variable ..: it tells no more, and any value is one
-    any_value : {v : V} → IsOfSeen ds cs nothing_more v
+  -- by what the normal form tells of them
+  pub data IsOfSeen (ds : List Dt) (cs : List Cn) : ℕ → Seen → V → Type 0 where
+    -- a function, a page, a variable ..: it tells no more, and any value may stand there
+    any_value : {d : ℕ} {v : V} → IsOfSeen ds cs d nothing_more v
     -- 1 : int, in 64 bits
-    is_number : {z : ℤ} → FitsSigned w64 z → IsOfSeen ds cs a_number (of_number z)
+    is_number : {d : ℕ} {z : ℤ} → FitsSigned w64 z → IsOfSeen ds cs d a_number (of_number z)
     -- "a" : string, in UTF-8
-    is_text : {w : List ℕ} → IsUtf8 w → IsOfSeen ds cs a_text (of_text w)
+    is_text : {d : ℕ} {w : List ℕ} → IsUtf8 w → IsOfSeen ds cs d a_text (of_text w)
     -- C : d t .., where C holds nothing
-    is_bare : {d : Dt} {args : List Cn} {j : ℕ} {c : Cd}
-        → slice_get d.constructors j ≡ Some c
+    is_bare : {d : ℕ} {x : Dt} {args : List Cn} {j : ℕ} {c : Cd}
+        → slice_get x.constructors j ≡ Some c
         → c.holds ≡ None
-        → IsOfSeen ds cs (a_datatype d args) (of_bare d.symbol j)
+        → IsOfSeen ds cs d (a_datatype x args) (of_bare x.symbol j)
     -- C v : d t .., where v is a value of what C holds at t ..
-    is_holding : {d : Dt} {args : List Cn} {j : ℕ} {c : Cd} {held : Cn} {v : V}
-        → slice_get d.constructors j ≡ Some c
+    is_holding : {d : ℕ} {x : Dt} {args : List Cn} {j : ℕ} {c : Cd} {held : Cn} {v : V}
+        → slice_get x.constructors j ≡ Some c
         → c.holds ≡ Some held
-        → IsOf ds cs (held_at args held) v
-        → IsOfSeen ds cs (a_datatype d args) (of_holding d.symbol j v)
+        → IsOf ds cs d (held_at args held) v
+        → IsOfSeen ds cs d (a_datatype x args) (of_holding x.symbol j v)
     -- {n = v, ..} : $[n = t, ..]
-    is_record : {fs : List (Cn × Cn)} {ss : Slots} → AreOf ds cs fs ss → IsOfSeen ds cs (a_record fs) (of_fields ss)
+    is_record : {d : ℕ} {fs : List (Cn × Cn)} {ss : Slots}
+        → AreOf ds cs d fs ss
+        → IsOfSeen ds cs d (a_record fs) (of_fields ss)
 
-  -- the values of fields, each of which stands once
-  pub data AreOf (ds : List Dt) (cs : List Cn) : List (Cn × Cn) → Slots → Type 0 where
-    -- {}, or other fields
-    no_field : {ss : Slots} → AreOf ds cs [] ss
+  -- the values of fields, of which no two have one name; a record may have others beside
+  pub data AreOf (ds : List Dt) (cs : List Cn) : ℕ → List (Cn × Cn) → Slots → Type 0 where
+    no_field : {d : ℕ} {ss : Slots} → AreOf ds cs d [] ss
     -- {n = v, ..}, where v is a value of n's type
-    one_field : {n t : Cn} {x : ℕ} {v : V} {fs : List (Cn × Cn)} {ss : Slots}
+    one_field : {d : ℕ} {n t : Cn} {x : ℕ} {v : V} {fs : List (Cn × Cn)} {ss : Slots}
         → IsName cs n x
         → NoneNamed cs x fs
         → slot_at ss x ≡ Some v
-        → IsOf ds cs t v
-        → AreOf ds cs fs ss
-        → AreOf ds cs ((n, t) ∷ fs) ss
+        → IsOf ds cs d t v
+        → AreOf ds cs d fs ss
+        → AreOf ds cs d ((n, t) ∷ fs) ss
 
 mutual
   -- the shapes of a value: a leaf stands for any value
