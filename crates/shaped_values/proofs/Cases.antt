@@ -1,5 +1,5 @@
 -- Covering patterns take each value.
-use Rattle.std.proofs.Common.{◌≡◌, ℕ, max, ◌≤◌, Bool, true, false, List, Option, if◌then◌else◌, refl, ap, sym, ◌∙◌, arith, ◌⊎◌, inl, inr}
+use Rattle.std.proofs.Common.{◌≡◌, ℕ, ◌≤◌, Bool, true, false, List, Option, if◌then◌else◌, refl, ap, sym, ◌∙◌, arith, ◌⊎◌, inl, inr}
 use Rattle.con_terms.specs.Trees.{Cn}
 use Rattle.core_terms.specs.Trees.{Ex, Pt, Brs, no_branches, branch}
 use Rattle.core_typing.specs.Scopes.{Sc}
@@ -13,13 +13,7 @@ use Rattle.core_meaning.specs.Meaning.{walk, walk_branches, chosen}
 use Rattle.shaped_values.specs.Values.{IsOf, HasShape}
 use Rattle.shaped_values.specs.Laws.{AsTold, steps_end, is_taken, is_not_taken, NamesOfBranchesHold, IsBranch, RunsOut, TakesABranch, CoveringCasesTakeABranch}
 use Rattle.shaped_values.proofs.Shaped.{some_shape}
-use Rattle.shaped_values.proofs.Taken.{as_told}
-
-left_depth : (m n d : ℕ) → max m n ≤ d → m ≤ d
-left_depth m n d h = grind (arith, h)
-
-right_depth : (m n d : ℕ) → max m n ≤ d → n ≤ d
-right_depth m n d h = grind (arith, h)
+use Rattle.shaped_values.proofs.Taken.{as_told, left_depth, right_depth}
 
 -- a branch more before the others
 behind : {P : Rn} {k : Next} {v : V} {bs : Brs} {ρ : Ev} {b c : ℕ} (w : Brs) → ((q : Pt) (e : Ex) → IsBranch bs q e → IsBranch w q e)

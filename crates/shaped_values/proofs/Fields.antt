@@ -21,10 +21,7 @@ use Rattle.core_typing.specs.Cover.{Shp, Shf, ShapeOf, ShapesOf, shape_at}
 use Rattle.core_typing.specs.Seen.{named_pairs, named_fields}
 use Rattle.core_meaning.specs.Values.{V, Slots, slot_at}
 use Rattle.shaped_values.specs.Values.{IsName, NoneNamed, IsOf, AreOf, no_field, one_field, HasShape, HaveShapes, none_have, field_has}
-use Rattle.shaped_values.proofs.Names.{one_symbol}
-
-some_is : {X : Type 0} {x y : X} → Some x ≡ Some y → x ≡ y
-some_is e = cc
+use Rattle.shaped_values.proofs.Names.{one_symbol, some_is}
 
 -- a field is one of these
 abbrev pub Among : List (Cn × Cn) → Cn → Cn → Type 0

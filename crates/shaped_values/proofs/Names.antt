@@ -7,9 +7,9 @@ use Rattle.core_terms.specs.Trees.{Pt, pattern, Pf, any, binds, is_number, is_te
 use Rattle.core_typing.specs.Scopes.{normal_of}
 use Rattle.core_meaning.specs.Values.{Out, done, more, closed, reduced_in, as_name, then_do, name_in}
 use Rattle.shaped_values.specs.Values.{IsName}
-use Rattle.shaped_values.specs.Laws.{NamesHold, NamesInHold, NamesOfHold, NamesAreLiteral, NamesInAreLiteral, NamesOfAreLiteral, NamesAreNormal, NamesInAreNormal, NamesOfAreNormal}
+use Rattle.shaped_values.specs.Laws.{EachName, EachNameIn, EachNameOf, NameHolds, NamesHold, IsLiteral, NamesAreLiteral, IsInForm, NamesAreNormal}
 
-some_is : {X : Type 0} {x y : X} → Some x ≡ Some y → x ≡ y
+pub some_is : {X : Type 0} {x y : X} → Some x ≡ Some y → x ≡ y
 some_is e = cc
 
 done_or_more : {P : Type 0} {x l : ℕ} → done x l ≡ more → P
@@ -46,48 +46,34 @@ literal_found cs s b =
 pub literal_name : (cs : List Cn) (s : ℕ) → IsName cs (name s) s
 literal_name cs s = record { steps = 0; left = 0; found = literal_found cs s 0; nothing_else = λ b. inr (b, literal_found cs s b) }
 
--- so what the normal form of a literal is, it is
-literal_holds : (cs : List Cn) (n : Cn) (s : ℕ) → n ≡ name s → (m : Cn) (x : ℕ) → normal_of n ≡ Some m → IsName cs m x → IsName cs n x
-literal_holds cs n s e m x f h =
-    let same : m ≡ n = some_is (sym f ∙ ap normal_of e ∙ literal_normal s) ∙ sym e in
-    subst (λ c. IsName cs c x) same h
-
-mutual
-  pub literals_hold : (cs : List Cn) (p : Pt) → NamesAreLiteral p → NamesHold cs p
-  literals_hold cs (pattern p f) h = literals_in_hold cs f h
-
-  literals_in_hold : (cs : List Cn) (f : Pf) → NamesInAreLiteral f → NamesInHold cs f
-  literals_in_hold cs any h = tt
-  literals_in_hold cs (binds x w t) h = tt
-  literals_in_hold cs (is_number z) h = tt
-  literals_in_hold cs (is_text t) h = tt
-  literals_in_hold cs (is_bare s j) h = tt
-  literals_in_hold cs (is_holding s j p) h = literals_hold cs p h
-  literals_in_hold cs (has_fields fs b) h = literals_of_hold cs fs h
-  literals_in_hold cs (annotated p t) h = literals_hold cs p h
-
-  literals_of_hold : (cs : List Cn) (fs : Pfs) → NamesOfAreLiteral fs → NamesOfHold cs fs
-  literals_of_hold cs no_pat_fields h = tt
-  literals_of_hold cs (pat_field p n q fs) ((s, e), h, g) = (literal_holds cs n s e, literals_hold cs q h, literals_of_hold cs fs g)
-
 -- what is in normal form is what its normal form is
-normal_holds : (cs : List Cn) (n : Cn) → normal_of n ≡ Some n → (m : Cn) (x : ℕ) → normal_of n ≡ Some m → IsName cs m x → IsName cs n x
+normal_holds : (cs : List Cn) (n : Cn) → IsInForm n → NameHolds cs n
 normal_holds cs n e m x f h = subst (λ c. IsName cs c x) (some_is (sym f ∙ e)) h
 
+literal_holds : (cs : List Cn) (n : Cn) → IsLiteral n → NameHolds cs n
+literal_holds cs n (s, e) = normal_holds cs n (ap normal_of e ∙ literal_normal s ∙ ap (λ c. Some c) (sym e))
+
+-- what holds of each name, where something else holds of it
 mutual
-  pub normals_hold : (cs : List Cn) (p : Pt) → NamesAreNormal p → NamesHold cs p
-  normals_hold cs (pattern p f) h = normals_in_hold cs f h
+  each_name : (P Q : Cn → Type 0) → ((n : Cn) → P n → Q n) → (p : Pt) → EachName P p → EachName Q p
+  each_name P Q go (pattern p f) h = each_name_in P Q go f h
 
-  normals_in_hold : (cs : List Cn) (f : Pf) → NamesInAreNormal f → NamesInHold cs f
-  normals_in_hold cs any h = tt
-  normals_in_hold cs (binds x w t) h = tt
-  normals_in_hold cs (is_number z) h = tt
-  normals_in_hold cs (is_text t) h = tt
-  normals_in_hold cs (is_bare s j) h = tt
-  normals_in_hold cs (is_holding s j p) h = normals_hold cs p h
-  normals_in_hold cs (has_fields fs b) h = normals_of_hold cs fs h
-  normals_in_hold cs (annotated p t) h = normals_hold cs p h
+  each_name_in : (P Q : Cn → Type 0) → ((n : Cn) → P n → Q n) → (f : Pf) → EachNameIn P f → EachNameIn Q f
+  each_name_in P Q go any h = tt
+  each_name_in P Q go (binds x w t) h = tt
+  each_name_in P Q go (is_number z) h = tt
+  each_name_in P Q go (is_text t) h = tt
+  each_name_in P Q go (is_bare s j) h = tt
+  each_name_in P Q go (is_holding s j p) h = each_name P Q go p h
+  each_name_in P Q go (has_fields fs b) h = each_name_of P Q go fs h
+  each_name_in P Q go (annotated p t) h = each_name P Q go p h
 
-  normals_of_hold : (cs : List Cn) (fs : Pfs) → NamesOfAreNormal fs → NamesOfHold cs fs
-  normals_of_hold cs no_pat_fields h = tt
-  normals_of_hold cs (pat_field p n q fs) (e, h, g) = (normal_holds cs n e, normals_hold cs q h, normals_of_hold cs fs g)
+  each_name_of : (P Q : Cn → Type 0) → ((n : Cn) → P n → Q n) → (fs : Pfs) → EachNameOf P fs → EachNameOf Q fs
+  each_name_of P Q go no_pat_fields h = tt
+  each_name_of P Q go (pat_field p n q fs) (e, h, g) = (go n e, each_name P Q go q h, each_name_of P Q go fs g)
+
+pub normals_hold : (cs : List Cn) (p : Pt) → NamesAreNormal p → NamesHold cs p
+normals_hold cs p h = each_name IsInForm (NameHolds cs) (normal_holds cs) p h
+
+pub literals_hold : (cs : List Cn) (p : Pt) → NamesAreLiteral p → NamesHold cs p
+literals_hold cs p h = each_name IsLiteral (NameHolds cs) (literal_holds cs) p h

@@ -20,9 +20,7 @@ use Rattle.core_typing.specs.Cover as cover
 use Rattle.core_typing.specs.Cover.{Shp, leaf, number_shape, text_shape, bare_shape, holding_shape, record_shape, Shf, ShapeOf, ShapesOf}
 use Rattle.core_meaning.specs.Values.{V}
 use Rattle.shaped_values.specs.Values.{IsOf, deeper, at_form, IsOfSeen}
-
-some_is : {X : Type 0} {x y : X} → Some x ≡ Some y → x ≡ y
-some_is e = cc
+use Rattle.shaped_values.proofs.Names.{some_is}
 
 -- the shapes of a type that is seen so
 pub data ShapeSeen (ds : List Dt) (d : ℕ) : Seen → Shp → Type 0 where

@@ -6,14 +6,11 @@ use Rattle.con_terms.specs.Trees.{Cn}
 use Rattle.core_terms.specs.Trees.{Pt, pattern, Pf, any, binds, is_number, is_text, is_bare, is_holding, has_fields, annotated, Pfs, no_pat_fields, pat_field}
 use Rattle.core_meaning.specs.Values.{V, of_number, of_text, of_fields, of_bare, of_holding, Slots, slot_at, Out, done, fault, more, deep, wrong_at, then_do, name_in}
 use Rattle.core_meaning.specs.Matching.{Taken, takes_if, then_bind, with_slot, matched, matched_form, matched_fields}
-use Rattle.shaped_values.specs.Laws.{NamesAreLiteral, NamesInAreLiteral, NamesOfAreLiteral}
+use Rattle.shaped_values.specs.Laws.{EachNameIn, EachNameOf, IsLiteral, NamesAreLiteral}
 use Rattle.shaped_values.proofs.Names.{literal_found}
 
 done_is_not : {A : Type 0} {a : A} {l : ℕ} → done a l ≡ more → ⊥
 done_is_not e = cc
-
-fault_is_not : {A : Type 0} (o : Out A) → (o ≡ more → ⊥) → o ≢ more
-fault_is_not o f = f
 
 -- what follows what doesn't need more, if it doesn't either
 then_not : {A B : Type 0} (o : Out A) (go : A → ℕ → Out B) → o ≢ more → ((a : A) (l : ℕ) → go a l ≢ more) → then_do o go ≢ more
@@ -43,7 +40,7 @@ mutual
   pub suffice : (cs : List Cn) (p : Pt) (v : V) (b : ℕ) → NamesAreLiteral p → matched cs p v b ≢ more
   suffice cs (pattern p f) v b h = form_suffices cs f v b h
 
-  form_suffices : (cs : List Cn) (f : Pf) (v : V) (b : ℕ) → NamesInAreLiteral f → matched_form cs f v b ≢ more
+  form_suffices : (cs : List Cn) (f : Pf) (v : V) (b : ℕ) → EachNameIn IsLiteral f → matched_form cs f v b ≢ more
   form_suffices cs any v b h = λ e. cc
   form_suffices cs (binds x w t) v b h = λ e. cc
   form_suffices cs (is_number z) (of_number y) b h = if_not (int_eq z y) b
@@ -58,7 +55,7 @@ mutual
   form_suffices cs (has_fields fs w) _ b h = λ e. cc
   form_suffices cs (annotated p t) v b h = suffice cs p v b h
 
-  fields_suffice : (cs : List Cn) (fs : Pfs) (ss : Slots) (b : ℕ) → NamesOfAreLiteral fs → matched_fields cs fs ss b ≢ more
+  fields_suffice : (cs : List Cn) (fs : Pfs) (ss : Slots) (b : ℕ) → EachNameOf IsLiteral fs → matched_fields cs fs ss b ≢ more
   fields_suffice cs no_pat_fields ss b h = λ e. cc
   fields_suffice cs (pat_field p n q fs) ss b ((x, is), h, g) =
       then_not (name_in cs n b) _ (λ e. done_is_not (sym (ap (λ m. name_in cs m b) is ∙ literal_found cs x b) ∙ e))

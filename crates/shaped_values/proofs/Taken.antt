@@ -14,12 +14,10 @@ use Rattle.core_meaning.specs.Values.{V, of_bare, of_holding, Slots, slot_at, do
 use Rattle.core_meaning.specs.Matching.{Taken, takes_if, then_bind, with_slot, matched, matched_form, matched_fields}
 use Rattle.shaped_values.specs.Values as values
 use Rattle.shaped_values.specs.Values.{IsName, IsOf, IsOfSeen, AreOf, HasShape, any_has, number_has, text_has, bare_has, holding_has, record_has, HaveShapes}
-use Rattle.shaped_values.specs.Laws.{NamesHold, NamesOfHold, AsTold, steps_end, is_taken, is_not_taken}
+use Rattle.shaped_values.specs.Laws.{NameHolds, NamesHold, EachNameOf, AsTold, steps_end, is_taken, is_not_taken}
 use Rattle.shaped_values.proofs.Seeing.{ShapeSeen, number_seen, text_seen, bare_seen, holding_seen, record_seen, shape_seen, value_seen, form_of, number_is_seen, text_is_seen, other_value, other_shape}
 use Rattle.shaped_values.proofs.Fields.{AllIn, record_pieces_in, field_in, at_field}
-
-some_is : {X : Type 0} {x y : X} → Some x ≡ Some y → x ≡ y
-some_is e = cc
+use Rattle.shaped_values.proofs.Names.{some_is}
 
 -- a test tells of what it decides
 by_test : (t : Bool) (b : ℕ) → AsTold t (takes_if t b)
@@ -116,10 +114,10 @@ not_so_deep h = absurd (omega (arith, h))
 less_deep : {m n : ℕ} → suc m ≤ suc n → m ≤ n
 less_deep h = omega (arith, h)
 
-left_depth : (m n d : ℕ) → max m n ≤ d → m ≤ d
+pub left_depth : (m n d : ℕ) → max m n ≤ d → m ≤ d
 left_depth m n d h = grind (arith, h)
 
-right_depth : (m n d : ℕ) → max m n ≤ d → n ≤ d
+pub right_depth : (m n d : ℕ) → max m n ≤ d → n ≤ d
 right_depth m n d h = grind (arith, h)
 
 -- a record, whose fields are taken so
@@ -158,7 +156,7 @@ mutual
   as_told d b (annotated_binds k a f) i o l h g = as_told d b f i (other_value a o) l (other_shape a h) g
 
   fields_told : {G : Sc} {cs : List Cn} {fs : Pfs} {ps rest ts : List Cn} {of : List (Cn × Cn)} {vs : Slots} {ss : Shf} (d : ℕ) (b : ℕ) → PatFieldsFound G fs ps rest ts
-      → AllIn of ps → NamesOfHold cs fs → fields_depth fs ≤ d → AreOf G.datatypes cs d of vs → ShapesOf G.datatypes d of ss → HaveShapes cs vs ss
+      → AllIn of ps → EachNameOf (NameHolds cs) fs → fields_depth fs ≤ d → AreOf G.datatypes cs d of vs → ShapesOf G.datatypes d of ss → HaveShapes cs vs ss
       → AsTold (fields_take fs ss) (matched_fields cs fs vs b)
   fields_told d b none_bind a i l o h g = is_taken
   fields_told {G} {cs} {of = of} {vs = vs} {ss = ss} d b (one_binds {p = p} {n = n} {m = m} {v = u} {q = q} {fs = fs} {ps = ps} {qs = qs} k e f one rest) a (name_is, i, is) l o h g =

@@ -18,8 +18,8 @@ some_number = of_holding option_name 1 (of_number (pos 0))
 abbrev pub record_at_name : Cn
 record_at_name = record_of (row types (pair (var 0) option_int no_pairs))
 
--- True is a value of bool, Some 0 one of option int, {} one of $[], and {nm = Some 0, B = True} one of $[nm = option int],
--- where nm is another name than B, at every depth.
+-- True is a value of bool, Some 0 one of option int, {} one of $[], and {nm = Some 0, B = True} one of
+-- $[nm = option int], where nm is another name than B, at every depth.
 abbrev pub ExamplesAreValues : Type 0
 ExamplesAreValues =
     ((d : ℕ) → IsOf basis_datatypes [] d (basic bool_name) (truth true))

@@ -19,67 +19,44 @@ EachValueHasAShape = (ds : List Dt) (cs : List Cn) (t : Cn) (v : V) (d : ℕ) �
     → (s : Shp) × ShapeOf ds d t s × HasShape cs v s
 
 abbrev mutual
-  -- each name of a field in a pattern is in the environment what its normal form is there
-  pub NamesHold : List Cn → Pt → Type 0
-  NamesHold cs (pattern p f) = NamesInHold cs f
+  -- something holds of each name of a field in a pattern
+  pub EachName : (Cn → Type 0) → Pt → Type 0
+  EachName holds (pattern p f) = EachNameIn holds f
 
-  pub NamesInHold : List Cn → Pf → Type 0
-  NamesInHold cs any = Unit {0}
-  NamesInHold cs (binds x w t) = Unit {0}
-  NamesInHold cs (is_number z) = Unit {0}
-  NamesInHold cs (is_text t) = Unit {0}
-  NamesInHold cs (is_bare s j) = Unit {0}
-  NamesInHold cs (is_holding s j p) = NamesHold cs p
-  NamesInHold cs (has_fields fs more') = NamesOfHold cs fs
-  NamesInHold cs (annotated p t) = NamesHold cs p
+  pub EachNameIn : (Cn → Type 0) → Pf → Type 0
+  EachNameIn holds any = Unit {0}
+  EachNameIn holds (binds x w t) = Unit {0}
+  EachNameIn holds (is_number z) = Unit {0}
+  EachNameIn holds (is_text t) = Unit {0}
+  EachNameIn holds (is_bare s j) = Unit {0}
+  EachNameIn holds (is_holding s j p) = EachName holds p
+  EachNameIn holds (has_fields fs more') = EachNameOf holds fs
+  EachNameIn holds (annotated p t) = EachName holds p
 
-  pub NamesOfHold : List Cn → Pfs → Type 0
-  NamesOfHold cs no_pat_fields = Unit {0}
-  NamesOfHold cs (pat_field p n q fs) =
-      ((m : Cn) (x : ℕ) → normal_of n ≡ Some m → IsName cs m x → IsName cs n x) × NamesHold cs q
-      × NamesOfHold cs fs
+  pub EachNameOf : (Cn → Type 0) → Pfs → Type 0
+  EachNameOf holds no_pat_fields = Unit {0}
+  EachNameOf holds (pat_field p n q fs) = holds n × EachName holds q × EachNameOf holds fs
 
-abbrev mutual
-  -- each name of a field in a pattern is a literal
-  pub NamesAreLiteral : Pt → Type 0
-  NamesAreLiteral (pattern p f) = NamesInAreLiteral f
+-- a name is in the environment what its normal form is there
+abbrev pub NameHolds : List Cn → Cn → Type 0
+NameHolds cs n = (m : Cn) (x : ℕ) → normal_of n ≡ Some m → IsName cs m x → IsName cs n x
 
-  pub NamesInAreLiteral : Pf → Type 0
-  NamesInAreLiteral any = Unit {0}
-  NamesInAreLiteral (binds x w t) = Unit {0}
-  NamesInAreLiteral (is_number z) = Unit {0}
-  NamesInAreLiteral (is_text t) = Unit {0}
-  NamesInAreLiteral (is_bare s j) = Unit {0}
-  NamesInAreLiteral (is_holding s j p) = NamesAreLiteral p
-  NamesInAreLiteral (has_fields fs more') = NamesOfAreLiteral fs
-  NamesInAreLiteral (annotated p t) = NamesAreLiteral p
+abbrev pub NamesHold : List Cn → Pt → Type 0
+NamesHold cs p = EachName (NameHolds cs) p
 
-  pub NamesOfAreLiteral : Pfs → Type 0
-  NamesOfAreLiteral no_pat_fields = Unit {0}
-  NamesOfAreLiteral (pat_field p n q fs) = ((x : ℕ) × (n ≡ name x)) × NamesAreLiteral q × NamesOfAreLiteral fs
+-- each name is a literal
+abbrev pub IsLiteral : Cn → Type 0
+IsLiteral n = (x : ℕ) × (n ≡ name x)
 
--- Steps suffice for matching a pattern whose names are literals, however few there are.
-abbrev pub LiteralPatternsNeedNoSteps : Type 0
-LiteralPatternsNeedNoSteps = (cs : List Cn) (p : Pt) (v : V) (b : ℕ) → NamesAreLiteral p → matched cs p v b ≢ more
+abbrev pub NamesAreLiteral : Pt → Type 0
+NamesAreLiteral p = EachName IsLiteral p
 
-abbrev mutual
-  -- each name of a field in a pattern is in normal form, as literals and variables are
-  pub NamesAreNormal : Pt → Type 0
-  NamesAreNormal (pattern p f) = NamesInAreNormal f
+-- each name is in normal form, as literals and variables are
+abbrev pub IsInForm : Cn → Type 0
+IsInForm n = normal_of n ≡ Some n
 
-  pub NamesInAreNormal : Pf → Type 0
-  NamesInAreNormal any = Unit {0}
-  NamesInAreNormal (binds x w t) = Unit {0}
-  NamesInAreNormal (is_number z) = Unit {0}
-  NamesInAreNormal (is_text t) = Unit {0}
-  NamesInAreNormal (is_bare s j) = Unit {0}
-  NamesInAreNormal (is_holding s j p) = NamesAreNormal p
-  NamesInAreNormal (has_fields fs more') = NamesOfAreNormal fs
-  NamesInAreNormal (annotated p t) = NamesAreNormal p
-
-  pub NamesOfAreNormal : Pfs → Type 0
-  NamesOfAreNormal no_pat_fields = Unit {0}
-  NamesOfAreNormal (pat_field p n q fs) = (normal_of n ≡ Some n) × NamesAreNormal q × NamesOfAreNormal fs
+abbrev pub NamesAreNormal : Pt → Type 0
+NamesAreNormal p = EachName IsInForm p
 
 -- The names of fields in a pattern hold in each environment where they are in normal form.
 abbrev pub NormalNamesHold : Type 0
@@ -88,6 +65,10 @@ NormalNamesHold = (cs : List Cn) (p : Pt) → NamesAreNormal p → NamesHold cs 
 -- So they do where they are literals.
 abbrev pub LiteralNamesHold : Type 0
 LiteralNamesHold = (cs : List Cn) (p : Pt) → NamesAreLiteral p → NamesHold cs p
+
+-- Steps suffice for matching a pattern whose names are literals, however few there are.
+abbrev pub LiteralPatternsNeedNoSteps : Type 0
+LiteralPatternsNeedNoSteps = (cs : List Cn) (p : Pt) (v : V) (b : ℕ) → NamesAreLiteral p → matched cs p v b ≢ more
 
 -- a value is taken or isn't, as a test tells, or more steps are needed
 pub data AsTold : Bool → Taken → Type 0 where

@@ -23,8 +23,9 @@ abbrev pub NoneNamed : List Cn → ℕ → List (Cn × Cn) → Type 0
 NoneNamed cs x fs = AllByRecursion (λ (f : Cn × Cn). IsName cs f.0 x → ⊥) fs
 
 mutual
-  -- What the normal form of a type lets its values be, down to a depth, in an environment of constructors; deeper it may
-  -- be any value. It says less than a typing: at the type of a function or a page, or at a variable, any value may stand.
+  -- What the normal form of a type lets its values be, down to a depth, in an environment of constructors; deeper it
+  -- may be any value. It says less than a typing: at the type of a function or a page, or at a variable, any value may
+  -- stand.
   pub data IsOf (ds : List Dt) (cs : List Cn) : ℕ → Cn → V → Type 0 where
     -- below the depth: any value
     deeper : {t : Cn} {v : V} → IsOf ds cs zero t v
