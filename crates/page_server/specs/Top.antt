@@ -1,5 +1,5 @@
 -- What the top call promises.
-use Rattle.std.specs.Prelude.{◌≡◌, ℕ, true, List, Option, Some, None, IfSome, ◌⊎◌}
+use Rattle.std.specs.Prelude.{◌≡◌, ℕ, true, List, [], Option, Some, None, IfSome, ◌⊎◌}
 use Rattle.std.specs.Io.KnownBytes.{Appends, IsAtEnd}
 use Rattle.xml_trees.specs.Trees.{Trees}
 use Rattle.xml_trees.specs.Written.{written}
@@ -8,15 +8,14 @@ use Rattle.page_bytes.specs.Pages.{WritesPage}
 use Rattle.core_terms.specs.Trees.{Pg}
 use Rattle.core_typing.specs.Accepts.{Accepts}
 use Rattle.site_pages.specs.Shown.{IsShown}
+use Rattle.ur_outside.specs.Files.{Told}
 use Rattle.ur_outside.specs.Whole.{AppendsFront}
-use Rattle.page_server.specs.declared.refusal.ModuleFault.{ModuleFault}
-use Rattle.page_server.specs.declared.refusal.ModuleFault.TheVariants.{OtherForm}
 use Rattle.site_build.specs.declared.fault.BuildFault.{BuildFault}
+use Rattle.site_build.specs.Causes.{IsCauseIn}
 use Rattle.site_build.specs.Lines.{line_of as line_of_build}
 use Rattle.site_build.specs.Sources.{IsProgramOfText}
-use Rattle.page_server.specs.Lines.{line_of}
+use Rattle.site_build.specs.Unshown.{HasNoPage}
 use Rattle.page_server.specs.Words.{is_build, reads, for_check, for_explicit, for_page}
-use Rattle.page_server.specs.Modules.{HasPage, IsRefused}
 
 -- the one word `page`
 abbrev pub IsPageCommand : List (List ℕ) → Type 0
@@ -33,52 +32,35 @@ IsBuildOf words dir = (reads words ≡ Some (for_check dir)) ⊎ (reads words �
 abbrev pub IsNoCommand : List (List ℕ) → Type 0
 IsNoCommand words = reads words ≡ None
 
--- The bytes are a module's that isn't of the small form. Of which program, or why it has no page, isn't said here.
-abbrev pub IsOther : List ℕ → Type 0
-IsOther input = IsRefused input OtherForm
-
 -- these trees are the page of an accepted program that is what the module says
 abbrev pub IsMeant : List ℕ → Trees → Type 0
 IsMeant input trees = (p : Pg) × IsProgramOfText input p × Accepts p × IsShown p trees
 
--- these trees may be the page of the module: of a small one its own, of another one that of a program that it says
-abbrev pub MayShow : List ℕ → Trees → Type 0
-MayShow input trees = HasPage input trees ⊎ (IsOther input × IsMeant input trees)
-
--- this line may refuse the module
-abbrev pub MayRefuse : List ℕ → List ℕ → Type 0
-MayRefuse input line =
-    ((fault : ModuleFault) × IsRefused input fault × (line_of fault ≡ Some line)) ⊎ IsOther input
-
--- The input was read to its end, it is a module, and the output grew by the text of its page. `before` and `left` are
--- what the input had and has left, `old` and `new` what the output held and holds.
+-- The input was read to its end, and the output grew by the text of its page. `before` and `left` are what the input
+-- had and has left, `old` and `new` what the output held and holds.
 abbrev pub PageIsWritten : Option (List ℕ) → Option (List ℕ) → Option (List ℕ) → Option (List ℕ) → Type 0
 PageIsWritten before left old new =
-    IfSome before (λ input. IsAtEnd left × (trees : Trees) × MayShow input trees × WritesPage old new (written trees))
+    IfSome before (λ input. IsAtEnd left × (trees : Trees) × IsMeant input trees × WritesPage old new (written trees))
 
 -- The input has no page, and the output grew by the line that says why.
 abbrev pub RefusalIsWritten : Option (List ℕ) → Option (List ℕ) → Option (List ℕ) → Type 0
 RefusalIsWritten before old new =
-    IfSome before (λ input. (line : List ℕ) × MayRefuse input line × Appends old new line)
+    IfSome before (λ input. (line : List ℕ) × HasNoPage input line × Appends old new line)
 
--- The bytes are what the program answers to this input: the text of its page, or the line of its refusal.
+-- The bytes are what the program answers to this input: the text of its page, or the line that says why it has none.
 abbrev pub IsAnswer : List ℕ → List ℕ → Type 0
-IsAnswer input bytes =
-    ((trees : Trees) × MayShow input trees × IsPage bytes (written trees)) ⊎ MayRefuse input bytes
+IsAnswer input bytes = ((trees : Trees) × IsMeant input trees × IsPage bytes (written trees)) ⊎ HasNoPage input bytes
 
 -- The output grew by a front of the answer to the input.
 abbrev pub FrontIsWritten : Option (List ℕ) → Option (List ℕ) → Option (List ℕ) → Type 0
 FrontIsWritten before old new = IfSome before (λ input. (answer : List ℕ) × IsAnswer input answer
     × AppendsFront old new answer)
 
--- the input is told, and is a module of the small form that has a page
-abbrev pub IsToldPage : Option (List ℕ) → Type 0
-IsToldPage before = (input : List ℕ) × (before ≡ Some input) × (trees : Trees) × HasPage input trees
-
--- A project isn't built, and the output grew by the line that says why.
-abbrev pub UnbuiltIsWritten : Option (List ℕ) → Option (List ℕ) → Type 0
-UnbuiltIsWritten old new =
-    (fault : BuildFault) × (line : List ℕ) × (line_of_build fault ≡ Some line) × Appends old new line
+-- The project in a folder isn't built, and the output grew by the line that says why.
+abbrev pub UnbuiltIsWritten : Option Told → List ℕ → Option (List ℕ) → Option (List ℕ) → Type 0
+UnbuiltIsWritten told dir old new =
+    IfSome told (λ files. (fault : BuildFault) × IsCauseIn files dir [] fault
+    × (line : List ℕ) × (line_of_build fault ≡ Some line) × Appends old new line)
 
 -- the output grew by some text, or by a front of one
 abbrev pub SomeIsWritten : Option (List ℕ) → Option (List ℕ) → Type 0

@@ -4,18 +4,20 @@ ghost use Rattle.std.specs.Io.KnownBytes.{Appends, Keeps};
 ghost use Rattle.xml_trees.specs.Trees.{Trees, IsWhole, built, trees_of};
 ghost use Rattle.xml_trees.specs.Written.{written};
 ghost use Rattle.page_bytes.specs.Pages.{WritesPage, WritesFront};
+ghost use Rattle.site_build.specs.Causes.{IsCauseIn};
+ghost use Rattle.site_build.specs.Lines.{line_of as line_of_build};
 ghost use Rattle.site_build.specs.Sources.{HasProgram};
+ghost use Rattle.site_build.specs.Unshown.{HasNoPage};
 ghost use Rattle.ur_outside.specs.Causes.{Rose};
 ghost use Rattle.ur_outside.specs.Whole.{AppendsFront};
-ghost use Rattle.page_server.specs.Lines.{accepted, line_of, usage};
-ghost use Rattle.page_server.specs.Top.{FrontIsWritten, IsBuildCommand, IsBuildOf, IsMeant, IsNoCommand, IsPageCommand, IsToldPage, PageIsWritten, RefusalIsWritten, SomeFrontIsWritten, SomeIsWritten, UnbuiltIsWritten};
+ghost use Rattle.page_server.specs.Lines.{accepted, usage};
+ghost use Rattle.page_server.specs.Top.{FrontIsWritten, IsBuildCommand, IsBuildOf, IsMeant, IsNoCommand, IsPageCommand, PageIsWritten, RefusalIsWritten, SomeFrontIsWritten, SomeIsWritten, UnbuiltIsWritten};
 ghost use Rattle.page_server.specs.Words.{for_check, reads};
 
-use crate::module::LONGEST;
 use crate::words::{Command, read_command};
-use crate::{ModuleFault, page_of};
 use page_bytes::write_page;
 use program_elaborator::Terms;
+use project_sources::LONGEST;
 use site_build::{BuildFault, NoPage, explicit_program, page_of_text};
 use std::alloc::{AllocError, Global};
 use table_rows::Texts;
@@ -67,24 +69,8 @@ fn end_with_page<O: Sink>(output: &mut O, page: &Page) -> Ended
     }
 }
 
-/// Ends with the line of the refusal.
-fn end_refused<O: Sink>(alloc: Global, output: &mut O, fault: &ModuleFault) -> Ended
-    ensures written { result.status ≡ 1 → (line : List ℕ) × (line_of fault.now ≡ Some line)
-        × Appends (O.wrote output.old) (O.wrote output.new) line }
-    ensures front { result.status ≡ 4 → (line : List ℕ) × (line_of fault.now ≡ Some line)
-        × AppendsFront (O.wrote output.old) (O.wrote output.new) line }
-    ensures kept { result.status ≡ 5 → Keeps (O.wrote output.old) (O.wrote output.new) }
-    ensures other { (result.status ≡ 1) ⊎ (result.status ≡ 4) ⊎ (result.status ≡ 5) }
-    ensures failed { result.status ≡ 4 → Rose (O.faults output.old) (O.faults output.new) }
-{
-    match fault.line(alloc) {
-        Ok(line) => end_with(output, line.as_bytes(), 1),
-        Err(AllocError) => Ended { status: 5 },
-    }
-}
-
-/// Ends with the page of a module that isn't of the small form, or with the line that says why it has none.
-fn end_other<T: Terms + Drop, O: Sink>(
+/// Ends with the page of a module, or with the line that says why it has none.
+fn end_text<T: Terms + Drop, O: Sink>(
     alloc: Global,
     terms: &T,
     output: &mut O,
@@ -94,9 +80,11 @@ fn end_other<T: Terms + Drop, O: Sink>(
     ensures page { result.status ≡ 0
         → (trees : Trees) × IsMeant bytes.now trees
         × WritesPage (O.wrote output.old) (O.wrote output.new) (written trees) }
-    ensures refused { result.status ≡ 1 → SomeIsWritten (O.wrote output.old) (O.wrote output.new) }
+    ensures refused { result.status ≡ 1
+        → (line : List ℕ) × HasNoPage bytes.now line × Appends (O.wrote output.old) (O.wrote output.new) line }
     ensures kept { result.status ≡ 5 → Keeps (O.wrote output.old) (O.wrote output.new) }
-    ensures front { result.status ≡ 4 → SomeFrontIsWritten (O.wrote output.old) (O.wrote output.new)
+    ensures front { result.status ≡ 4
+        → ((line : List ℕ) × HasNoPage bytes.now line × AppendsFront (O.wrote output.old) (O.wrote output.new) line)
         ⊎ (trees : Trees) × IsMeant bytes.now trees
         × WritesFront (O.wrote output.old) (O.wrote output.new) (written trees) }
     ensures failed { result.status ≡ 4 → Rose (O.faults output.old) (O.faults output.new) }
@@ -120,27 +108,22 @@ fn end_page<T: Terms + Drop, I: Source, O: Sink>(
         → PageIsWritten (I.left input.old) (I.left input.new) (O.wrote output.old) (O.wrote output.new) }
     ensures refused { result.status ≡ 1
         → RefusalIsWritten (I.left input.old) (O.wrote output.old) (O.wrote output.new) }
-    ensures complete { IsToldPage (I.left input.old) → result.status ≡ 1 → ⊥ }
     ensures kept { (result.status ≡ 3) ⊎ (result.status ≡ 5) → Keeps (O.wrote output.old) (O.wrote output.new) }
     ensures front { result.status ≡ 4 → FrontIsWritten (I.left input.old) (O.wrote output.old) (O.wrote output.new) }
     ensures read_failed { result.status ≡ 3 → Rose (I.faults input.old) (I.faults input.new) }
     ensures write_failed { result.status ≡ 4 → Rose (O.faults output.old) (O.faults output.new) }
 {
-    let bytes = match read_up_to(alloc, input, ENOUGH) {
-        Ok(bytes) => bytes,
-        Err(ReadFault::Failed) => return Ended { status: 3 },
-        Err(ReadFault::Memory) => return Ended { status: 5 },
-    };
-    match page_of(alloc, &bytes) {
-        Ok(page) => end_with_page(output, &page),
-        Err(ModuleFault::OtherForm) => end_other(alloc, terms, output, &bytes),
-        Err(fault) => end_refused(alloc, output, &fault),
+    match read_up_to(alloc, input, ENOUGH) {
+        Ok(bytes) => end_text(alloc, terms, output, &bytes),
+        Err(ReadFault::Failed) => Ended { status: 3 },
+        Err(ReadFault::Memory) => Ended { status: 5 },
     }
 }
 
 /// Ends with the line that says why a project isn't built.
 fn end_unbuilt<O: Sink>(alloc: Global, output: &mut O, fault: &BuildFault) -> Ended
-    ensures written { result.status ≡ 1 → UnbuiltIsWritten (O.wrote output.old) (O.wrote output.new) }
+    ensures written { result.status ≡ 1 → (line : List ℕ) × (line_of_build fault.now ≡ Some line)
+        × Appends (O.wrote output.old) (O.wrote output.new) line }
     ensures front { result.status ≡ 4 → SomeFrontIsWritten (O.wrote output.old) (O.wrote output.new) }
     ensures kept { result.status ≡ 5 → Keeps (O.wrote output.old) (O.wrote output.new) }
     ensures other { (result.status ≡ 1) ⊎ (result.status ≡ 4) ⊎ (result.status ≡ 5) }
@@ -182,7 +165,8 @@ fn end_build<T: Terms + Drop, F: Files, O: Sink>(
         → Appends (O.wrote output.old) (O.wrote output.new) accepted }
     ensures written { result.status ≡ 0 → SomeIsWritten (O.wrote output.old) (O.wrote output.new) }
     ensures built { result.status ≡ 0 → IfSome (F.told files.old) (λ files. HasProgram files dir.now []) }
-    ensures refused { result.status ≡ 1 → UnbuiltIsWritten (O.wrote output.old) (O.wrote output.new) }
+    ensures refused { result.status ≡ 1
+        → UnbuiltIsWritten (F.told files.old) dir.now (O.wrote output.old) (O.wrote output.new) }
     ensures kept { (result.status ≡ 3) ⊎ (result.status ≡ 5) → Keeps (O.wrote output.old) (O.wrote output.new) }
     ensures front { result.status ≡ 4 → SomeFrontIsWritten (O.wrote output.old) (O.wrote output.new) }
     ensures told { F.told files.new ≡ F.told files.old }
@@ -207,7 +191,7 @@ pub fn top<T: Terms + Drop, F: Files, I: Source, O: Sink>(
 ) -> Ended
     ensures range { result.status ≤ 5 }
 
-    // The input is a module, and its page was written; or why it has none.
+    // The page of the module was written; or why it has none.
     ensures page { IsPageCommand (map string_bytes words.now) → result.status ≡ 0
         → PageIsWritten (I.left line.old.input) (I.left line.new.input)
         (O.wrote line.old.output) (O.wrote line.new.output) }
@@ -221,8 +205,8 @@ pub fn top<T: Terms + Drop, F: Files, I: Source, O: Sink>(
         → SomeIsWritten (O.wrote line.old.output) (O.wrote line.new.output) }
     ensures built { (dir : List ℕ) → IsBuildOf (map string_bytes words.now) dir → result.status ≡ 0
         → IfSome (F.told files.old) (λ files. HasProgram files dir []) }
-    ensures unbuilt { IsBuildCommand (map string_bytes words.now) → result.status ≡ 1
-        → UnbuiltIsWritten (O.wrote line.old.output) (O.wrote line.new.output) }
+    ensures unbuilt { (dir : List ℕ) → IsBuildOf (map string_bytes words.now) dir → result.status ≡ 1
+        → UnbuiltIsWritten (F.told files.old) dir (O.wrote line.old.output) (O.wrote line.new.output) }
 
     // The words are no command.
     ensures usage { result.status ≡ 2 → Appends (O.wrote line.old.output) (O.wrote line.new.output) usage }
@@ -248,11 +232,15 @@ pub fn top<T: Terms + Drop, F: Files, I: Source, O: Sink>(
     ensures told { F.told files.new ≡ F.told files.old }
     ensures unread { (IsPageCommand (map string_bytes words.now) → ⊥) → I.left line.new.input ≡ I.left line.old.input }
 
-    // What has a page by its small form is written, unless the outside failed or memory ran out.
-    ensures complete { IsPageCommand (map string_bytes words.now) → IsToldPage (I.left line.old.input)
+    // A page, or a refusal with its cause, is written unless the outside failed or memory ran out.
+    ensures complete { IsPageCommand (map string_bytes words.now)
         → (Rose (I.faults line.old.input) (I.faults line.new.input) → ⊥)
         → (Rose (O.faults line.old.output) (O.faults line.new.output) → ⊥)
-        → (result.status ≡ 0) ⊎ (result.status ≡ 5) }
+        → (result.status ≡ 0) ⊎ (result.status ≡ 1) ⊎ (result.status ≡ 5) }
+    ensures complete_build { IsBuildCommand (map string_bytes words.now)
+        → (Rose (F.faults files.old) (F.faults files.new) → ⊥)
+        → (Rose (O.faults line.old.output) (O.faults line.new.output) → ⊥)
+        → (result.status ≡ 0) ⊎ (result.status ≡ 1) ⊎ (result.status ≡ 5) }
 {
     match read_command(words) {
         Some(Command::Page) => end_page(alloc, terms, &mut line.input, &mut line.output),

@@ -2,12 +2,7 @@
 #![tactic(auto)]
 
 pub mod command;
-pub mod laws;
-pub mod module;
-pub mod refusal;
 pub mod words;
 
 pub use command::{Ended, top};
-pub use module::page_of;
-pub use refusal::ModuleFault;
 pub use words::{Command, is_only_word, read_command};

@@ -1,7 +1,6 @@
 //! A case: a source, and what is to come of it.
 use crate::driving::{Found, markup_of, query_of};
 use crate::outline::outline_of;
-use crate::pages::small_line;
 use crate::sources::written_out;
 use crate::tokens::{fault_line, tokens_line, tokens_of};
 use grammar_engine::read::read_whole;
@@ -21,10 +20,6 @@ enum Reader {
     Module,
     /// As an interface.
     Interface,
-    /// As a module of the small form: its shape is its page.
-    Small,
-    /// The same: its shape is how many pieces the page has.
-    Pieces,
     /// The nodes behind the first token, by the reader of markup; what they leave is read by the engine.
     Markup,
     /// The query behind the first token, by the reader of queries.
@@ -43,8 +38,6 @@ fn reader_of(name: &str) -> Option<Reader> {
         "decl" => Some(Reader::Whole(Part::Many(Form::Decl))),
         "module" => Some(Reader::Module),
         "interface" => Some(Reader::Interface),
-        "small" => Some(Reader::Small),
-        "pieces" => Some(Reader::Pieces),
         "markup" => Some(Reader::Markup),
         "query" => Some(Reader::Query),
         _ => None,
@@ -94,8 +87,6 @@ fn answer(alloc: Global, reader: Reader, source: &str) -> Result<String, AllocEr
             let line = tokens_line(alloc, &tokens)?;
             format!(in alloc; "= {}", line.as_str())
         }
-        Reader::Small => small_line(alloc, &tokens, false),
-        Reader::Pieces => small_line(alloc, &tokens, true),
         Reader::Whole(part) => {
             let read = read_whole(alloc, &tokens, part);
             line_of(alloc, source, &tokens, part, 0, read)

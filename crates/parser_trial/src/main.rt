@@ -12,7 +12,6 @@
 mod cases;
 mod driving;
 mod outline;
-mod pages;
 mod sources;
 mod tokens;
 

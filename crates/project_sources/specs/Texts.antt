@@ -53,3 +53,13 @@ pub data HasNoTree (part : Part) (name bytes : List ℕ) (fault : SourceFault) :
   -- its tokens are those of no tree
   no_node : IsText bytes → (ts : TokenList) (told : ParseFault) → HasTokens bytes ts → FaultExact part ts told
       → told ≢ parser.Memory → fault ≡ Unparsed name told → HasNoTree part name bytes fault
+
+-- ---- laws
+
+-- The text of a module has one tree at most, isn't refused where it has one, and is refused for one reason.
+pub record ModulesHaveOneAnswer : Type 0 where
+  pub one_tree : (bytes : List ℕ) (node other : Node) → IsModuleTree bytes node → IsModuleTree bytes other → node ≡ other
+  pub not_refused : (name bytes : List ℕ) (node : Node) (fault : SourceFault) → IsModuleTree bytes node
+      → HasNoTree module_part name bytes fault → ⊥
+  pub one_refusal : (name bytes : List ℕ) (fault other : SourceFault) → HasNoTree module_part name bytes fault
+      → HasNoTree module_part name bytes other → fault ≡ other

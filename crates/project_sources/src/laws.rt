@@ -1,5 +1,6 @@
-//! Laws of what folders hold. Each function does nothing: its clause is the law.
+//! Laws of what folders hold, and of the texts of modules. Each function does nothing: its clause is the law.
 ghost use Rattle.project_sources.specs.Projects.{FoldersHaveOneAnswer, RefusalsHaveOneCause};
+ghost use Rattle.project_sources.specs.Texts.{ModulesHaveOneAnswer};
 
 use grammar_engine::laws::{one_refusal, one_whole_tree, trees_are_not_refused};
 use project_files::laws::{projects_have_one_answer, refusals_have_one_line};
@@ -26,4 +27,14 @@ pub fn refusals_have_one_cause()
     trees_are_not_refused();
     projects_have_one_answer();
     refusals_have_one_line();
+}
+
+/// The text of a module has one tree, or is refused for one reason.
+pub fn modules_have_one_answer()
+    ensures { ModulesHaveOneAnswer }
+{
+    texts_have_one_reading();
+    one_whole_tree();
+    one_refusal();
+    trees_are_not_refused();
 }

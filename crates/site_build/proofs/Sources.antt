@@ -1,12 +1,12 @@
 -- From the files of a project to what its program is held against.
-use Rattle.std.proofs.Common.{ℕ, List, [], ◌∷◌, Option, Some, None, IfSome, Result, Ok, Err, IfOk}
+use Rattle.std.proofs.Common.{ℕ, List, [], ◌∷◌, Option, Some, None, IfSome, Result, Ok, Err, IfErr, IfOk}
 use Rattle.surface_grammar.specs.Refusals.{deepest, Whole}
 use Rattle.surface_grammar.specs.Trees.{Node}
 use Rattle.ur_outside.specs.Files.{Told}
-use Rattle.ur_parser.specs.Sources.{module_part, interface_part}
+use Rattle.ur_parser.specs.Sources.{module_part}
 use Rattle.project_files.specs.Lines.{Line}
-use Rattle.project_sources.specs.Modules.{ModuleTrees, HasModuleFile, HasInterfaceFile, IsModule, AreModules}
-use Rattle.plain_projects.specs.Listed.{IsWholeInterface, IsWholeModule, AreWhole}
+use Rattle.project_sources.specs.Modules.{ModuleTrees, HasModuleFile, HasInterfaceFile, AreModules}
+use Rattle.plain_projects.specs.Listed.{IsWholeInterface, AreWhole}
 
 -- the tree of a file is whole
 whole_tree : (content : Option (List ℕ)) (n : Node) → HasModuleFile content n → (room : ℕ) × Whole room module_part n
@@ -36,3 +36,8 @@ where_told (Some x) P Q f h = f x h
 pub where_ok : {X E : Type 0} (r : Result X E) (P Q : X → Type 0) → ((x : X) → P x → Q x) → IfOk r P → IfOk r Q
 where_ok (Ok x) P Q f h = f x h
 where_ok (Err e) P Q f h = tt
+
+-- what holds of a refusal
+pub where_err : {X E : Type 0} (r : Result X E) (P Q : E → Type 0) → ((e : E) → P e → Q e) → IfErr r P → IfErr r Q
+where_err (Ok x) P Q f h = tt
+where_err (Err e) P Q f h = f e h

@@ -4,3 +4,11 @@ pub mod Lines
 pub mod Sources
 -- How many tables a module declares.
 pub mod Tables
+-- Why a project isn't built.
+pub mod Causes
+-- Why a module alone has no page.
+pub mod Unshown
+-- What the steps of building tell of a fault.
+pub mod Faults
+-- A project, or a module alone, isn't built for one cause at most.
+pub mod Laws

@@ -1,5 +1,5 @@
 //! From the trees of modules to their explicit program.
-ghost use Rattle.std.specs.Prelude.{◌≡◌, true, map, IfOk, IsErrOf};
+ghost use Rattle.std.specs.Prelude.{◌≡◌, true, map, IfErr, IfOk, IsErrOf};
 ghost use Rattle.core_terms.specs.Lists.{foreigns_view, rules_view};
 ghost use Rattle.core_terms.specs.Trees.{Pg};
 ghost use Rattle.core_terms.specs.View.{program_view};
@@ -8,6 +8,7 @@ ghost use Rattle.plain_projects.specs.Listed.{AreWhole};
 ghost use Rattle.plain_tree.specs.View.{plain_view};
 ghost use Rattle.project_sources.specs.Projects.{ProjectTrees};
 ghost use Rattle.project_sources.specs.View.{ListsProject};
+ghost use Rattle.site_build.specs.Faults.{IsOfModules, IsOfProgram};
 ghost use Rattle.site_build.specs.Sources.{IsProgramOf};
 ghost use Rattle.source_terms.specs.Programs.{is_source as says};
 
@@ -49,7 +50,7 @@ fn source_of(alloc: Global, sources: &Sources) -> Result<Source, AllocError>
 
 /// The refusal of a told fault.
 fn refused(alloc: Global, modules: &[ModuleSource], told: Told) -> Result<BuildFault, AllocError>
-    ensures { result ≡ Ok BuildFault.ReadFault → ⊥ }
+    ensures { IfOk result IsOfProgram }
 {
     let Told {
         place: Place { file, at },
@@ -69,7 +70,7 @@ fn unelaborated(
     modules: &[ModuleSource],
     refusal: &Refusal,
 ) -> Result<BuildFault, AllocError>
-    ensures { result ≡ Ok BuildFault.ReadFault → ⊥ }
+    ensures { IfOk result IsOfProgram }
 {
     let names = names_of(alloc, modules)?;
     let told = told_of_elaboration(alloc, &refusal.names, &names, &refusal.fault)?;
@@ -82,7 +83,7 @@ fn elaborated<T: Terms + Drop>(
     terms: &T,
     sources: &Sources,
 ) -> Result<Program, BuildFault>
-    ensures told { IsErrOf result BuildFault.ReadFault → ⊥ }
+    ensures refused { IfErr result IsOfProgram }
     ensures source { IfOk result (λ g. (p : ProjectTrees) → ListsProject sources.now p → AreWhole p.modules
         → IsProgramOf p (program_view g)) }
 {
@@ -95,7 +96,7 @@ fn elaborated<T: Terms + Drop>(
 
 /// The program, where the checker keeps it.
 fn kept(alloc: Global, modules: &[ModuleSource], program: Program) -> Result<Program, BuildFault>
-    ensures told { IsErrOf result BuildFault.ReadFault → ⊥ }
+    ensures refused { IfErr result IsOfProgram }
     ensures same { IfOk result (λ p. p ≡ program) }
     ensures accepted { IfOk result (λ p. Accepts (program_view p)) }
 {
@@ -116,6 +117,8 @@ pub(crate) fn site_of<T: Terms + Drop>(
     sources: &Sources,
 ) -> Result<Site, BuildFault>
     ensures told { IsErrOf result BuildFault.ReadFault → ⊥ }
+    ensures refused { IfErr result (λ fault. (p : ProjectTrees) → ListsProject sources.now p
+        → IsOfModules p.modules fault) }
     ensures accepted { IfOk result (λ s. Accepts (program_view s.program)) }
     ensures source { IfOk result (λ s. (p : ProjectTrees) → ListsProject sources.now p → AreWhole p.modules
         → IsProgramOf p (program_view s.program)) }

@@ -6,6 +6,7 @@ pub mod building;
 mod chain;
 pub mod fault;
 mod forms;
+pub mod laws;
 pub mod line;
 mod many_tables;
 mod names;

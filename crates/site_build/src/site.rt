@@ -1,5 +1,5 @@
 //! Sites: projects that were built.
-ghost use Rattle.std.specs.Prelude.{◌≡◌};
+ghost use Rattle.std.specs.Prelude.{◌≡◌, string_bytes};
 
 use core_terms::Program;
 
@@ -19,12 +19,16 @@ impl Site {
     }
 
     /// The program as its tokens, with one space between two: each module, and then its declarations.
-    pub fn explicit(&self) -> &str {
+    pub fn explicit(&self) -> &str
+        ensures { result.now ≡ string_bytes self.now.explicit }
+    {
         self.explicit.as_str()
     }
 
     /// The same text, owned.
-    pub fn into_explicit(self) -> String {
+    pub fn into_explicit(self) -> String
+        ensures { result ≡ self.explicit }
+    {
         let Site { explicit, .. } = self;
         explicit
     }

@@ -1,5 +1,5 @@
 -- The page that is found is the program's answer to the request.
-use Rattle.std.proofs.Common.{◌≡◌, ℕ, suc, ◌≤◌, ◌⊎◌, inl, inr, Bool, false, List, None, Some, Option, slice_get, refl, ap, sym, ◌∙◌, subst, arith}
+use Rattle.std.proofs.Common.{◌≡◌, ℕ, suc, ◌≤◌, inl, inr, false, List, None, Some, Option, slice_get, refl, sym, ◌∙◌, subst, arith}
 use Rattle.xml_trees.specs.Trees.{Trees}
 use Rattle.xml_trees.specs.Written.{written}
 use Rattle.table_rows.specs.Shapes.{Sh}
@@ -8,7 +8,7 @@ use Rattle.core_terms.specs.Trees.{Pg}
 use Rattle.value_trees.specs.Values.{V, Out, done, deep}
 use Rattle.core_meaning.specs.Actions.{State}
 use Rattle.core_meaning.specs.Wired.{AreGiven}
-use Rattle.core_meaning.specs.Requests.{Answers, is_called, ReadsAs, a_call, is_link, Ends, with_page, ShortEnough, answered, answered_within, known, finished}
+use Rattle.core_meaning.specs.Requests.{is_called, ReadsAs, a_call, is_link, Ends, with_page, ShortEnough, answered, answered_within, known, finished}
 use Rattle.core_meaning.proofs.Answering.{nesting_only_refuses}
 use Rattle.site_pages.specs.Lengths.{IsShort}
 use Rattle.site_pages.specs.Found.{IsFound}

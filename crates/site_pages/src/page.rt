@@ -1,13 +1,20 @@
 //! From a program to the page of its `main`.
-ghost use Rattle.std.specs.Prelude.{◌≡◌, IfOk, IsTrue, IsFalse};
+ghost use Rattle.std.specs.Prelude.{◌≡◌, IfErr, IfOk, IsTrue, IsFalse, Some, slice_get};
 ghost use Rattle.core_terms.specs.View.{program_view};
 ghost use Rattle.core_typing.specs.Accepts.{Accepts};
+ghost use Rattle.core_meaning.specs.Actions.{State};
 ghost use Rattle.core_meaning.specs.Requests.{aborted_page as page_aborted};
+ghost use Rattle.link_router.specs.Calls.{Ent};
 ghost use Rattle.link_router.specs.View.{call_view, routes_view};
+ghost use Rattle.plain_run.specs.Ran.{FailsWith};
+ghost use Rattle.run_values.specs.Outcomes.{AbortedWith};
 ghost use Rattle.site_pages.specs.Lengths.{IsShort, IsLong};
 ghost use Rattle.site_pages.specs.Found.{GivesPage, IsFound};
 ghost use Rattle.site_pages.specs.Shown.{IsShown};
-ghost use Rattle.xml_trees.specs.Trees.{IsWhole, Whole, built, trees_of};
+ghost use Rattle.site_pages.specs.Stopped.{Stops, StopsAt};
+ghost use Rattle.site_pages.specs.Unshown.{IsUnshown, Tells};
+ghost use Rattle.value_trees.specs.Values.{Out};
+ghost use Rattle.xml_trees.specs.Trees.{IsWhole, Trees, Whole, built, trees_of};
 ghost use Rattle.xml_trees.specs.Written.{written};
 
 use crate::lines::{NoPage, astray, named, stopped};
@@ -59,14 +66,27 @@ fn is_short_aborted(alloc: Global, page: &Page) -> Result<bool, AllocError>
     Ok(is_short(&made))
 }
 
+/// Why an aborted run gave no page: that it was aborted, or that the page of what it was given is too long.
+fn aborted(alloc: Global, page: &Page) -> NoPage
+    ensures { (o : Out (Trees × State)) → AbortedWith page.now o → Tells (Stops o) result }
+{
+    if !page.is_whole() {
+        return NoPage::Memory;
+    }
+    match is_short_aborted(alloc, page) {
+        Ok(true) => named(alloc, "Aborted"),
+        Ok(false) => named(alloc, "PageTooLong"),
+        Err(AllocError) => NoPage::Memory,
+    }
+}
+
 /// Why a run gave no page.
-fn no_page(alloc: Global, fault: &RunFault) -> NoPage {
+fn no_page(alloc: Global, fault: &RunFault) -> NoPage
+    ensures { (o : Out (Trees × State)) → FailsWith fault.now o → Tells (Stops o) result }
+{
     match fault {
-        RunFault::Aborted(page) if page.is_whole() => match is_short_aborted(alloc, page) {
-            Ok(short) => stopped(alloc, fault, !short),
-            Err(AllocError) => NoPage::Memory,
-        },
-        _ => stopped(alloc, fault, false),
+        RunFault::Aborted(page) => aborted(alloc, page),
+        _ => stopped(alloc, fault),
     }
 }
 
@@ -79,8 +99,11 @@ fn page_of_entry(
     number: u32,
     call: &Call,
 ) -> Result<Page, NoPage>
-    ensures { IfOk result (λ page. GivesPage (program_view program.now) (routes_view site.now.routes)
+    ensures page { IfOk result (λ page. GivesPage (program_view program.now) (routes_view site.now.routes)
         (call_view call.now) number (trees_of (built page))) }
+    ensures refused { (e : Ent) → slice_get (routes_view site.now.routes).entries (call_view call.now).entry ≡ Some e
+        → IfErr result (Tells (StopsAt (program_view program.now) (routes_view site.now.routes) (call_view call.now)
+        number)) }
 {
     let Some(entry) = site.routes.entries.get(call.entry as usize) else {
         return Err(named(alloc, "NoRoute"));
@@ -102,8 +125,10 @@ fn page_of_entry(
 
 /// The page that a program shows at `main` of its module, however long its text is.
 fn page_of_main(alloc: Global, program: &Program) -> Result<Page, NoPage>
-    ensures { Accepts (program_view program.now)
+    ensures page { Accepts (program_view program.now)
         → IfOk result (λ page. IsFound (program_view program.now) (trees_of (built page))) }
+    ensures refused { Accepts (program_view program.now)
+        → IfErr result (Tells (IsUnshown (program_view program.now))) }
 {
     let site = routes(alloc, program)?;
     let path = Text::of(alloc, "/Main/main")?;
@@ -117,10 +142,14 @@ fn page_of_main(alloc: Global, program: &Program) -> Result<Page, NoPage>
 }
 
 #[tactic(auto, using(crate::proofs::Answering::found_is_shown))]
-/// The page that a program shows at `main` of its module, unless its text is longer than 16,777,216 bytes.
+/// The page that a program shows at `main` of its module, unless its text is longer than 16,777,216 bytes, or the line
+/// that says why it shows none.
 pub fn page_of_program(alloc: Global, program: &Program) -> Result<Page, NoPage>
     ensures shown { Accepts (program_view program.now)
         → IfOk result (λ page. IsShown (program_view program.now) (trees_of (built page))) }
+    // Or the line tells what the program answers in place of a page, or that too many calls are nested.
+    ensures refused { Accepts (program_view program.now)
+        → IfErr result (Tells (IsUnshown (program_view program.now))) }
     ensures whole { IfOk result (λ page. IsWhole (built page)) }
     ensures short { IfOk result (λ page. IsShort (written (trees_of (built page)))) }
 {

@@ -1,6 +1,7 @@
-//! The sentences on what nothing tells: a type, a value for an operation, a branch.
+//! The sentences on what nothing tells: a type, a branch.
+use crate::actions::is_return_unfinished;
 use crate::scan::{Form, innermost};
-use crate::spot::{Spot, behind_word, is_word_part, said, tag_of, word_of};
+use crate::spot::{Spot, begins_with_small, declaration_of, is_word_part, said, tag_of, word_of};
 use std::alloc::{AllocError, Global};
 
 /// What is told of a shape that no branch takes.
@@ -9,33 +10,75 @@ pub(crate) fn inexhaustive(
     shape: &str,
     spot: &Spot<'_>,
 ) -> Result<String, AllocError> {
-    let remedy = if is_literal(shape) {
+    let shown = shown_shape(alloc, shape)?;
+    missed(alloc, shown.as_str(), remedy_of(shape, spot.rest))
+}
+
+/// A shape that no branch takes, and what is to be done.
+fn missed(alloc: Global, shape: &str, remedy: &str) -> Result<String, AllocError> {
+    said(alloc, &["no branch takes ", shape, remedy])
+}
+
+/// A shape as it is told, with words for characters that can't be seen.
+fn shown_shape(alloc: Global, shape: &str) -> Result<String, AllocError> {
+    let mut shown = String::new(alloc);
+    for character in shape.chars() {
+        show_character(alloc, &mut shown, character)?;
+    }
+    Ok(shown)
+}
+
+/// Shows a character of a shape: as its escape, or by its number, where it can't be seen.
+fn show_character(alloc: Global, shown: &mut String, character: char) -> Result<(), AllocError> {
+    match character {
+        '\0' => shown.push_str("<NUL>"),
+        '\n' => shown.push_str("\\n"),
+        '\r' => shown.push_str("\\r"),
+        '\t' => shown.push_str("\\t"),
+        _ if character.is_control() => {
+            shown.push_str("<character ")?;
+            shown.push_str((character as u32).to_string(alloc)?.as_str())?;
+            shown.push_str(">")
+        }
+        _ => shown.push(character),
+    }
+}
+
+/// What is to be done for a shape that no branch takes, by the shape and the text from the match on.
+fn remedy_of(shape: &str, rest: &str) -> &'static str {
+    if is_literal(shape) {
         ", and there are more like it: add a last branch _ => .."
-    } else if declaration_of(spot.rest).contains("=> case ") {
+    } else if shape.contains('"') {
+        ", and there are more like it: write _ for the text, or add a last branch _ => .."
+    } else if has_number(shape) {
+        ", and there are more like it: write _ for the number, or add a last branch _ => .."
+    } else if declaration_of(rest).contains("=> case ") {
         ": add one, or does an inner case without ( ) have it?"
     } else {
         ": add one for it"
-    };
-    said(alloc, &["no branch takes ", shape, remedy])
+    }
 }
 
 /// Whether a shape is a number or a string.
 fn is_literal(shape: &str) -> bool {
-    shape.starts_with('"')
-        || shape.starts_with('-')
-        || shape.starts_with(|c: char| c.is_ascii_digit())
+    shape.starts_with('"') || is_number(shape)
 }
 
-/// A text up to the next line that begins without a blank.
-fn declaration_of(rest: &str) -> &str {
-    let mut last = ' ';
-    for (at, character) in rest.char_indices() {
-        if last == '\n' && !character.is_whitespace() {
-            return rest.get(..at).unwrap_or("");
+/// Whether a text begins as a number does.
+fn is_number(text: &str) -> bool {
+    text.starts_with('-') || text.starts_with(|c: char| c.is_ascii_digit())
+}
+
+/// Whether a number stands in a shape, other than as the name of a field.
+fn has_number(shape: &str) -> bool {
+    let mut behind_number = false;
+    for word in shape.split(' ') {
+        if behind_number && word != "=" {
+            return true;
         }
-        last = character;
+        behind_number = is_number(word);
     }
-    rest
+    behind_number
 }
 
 /// What is told of a type that is left open.
@@ -57,6 +100,14 @@ pub(crate) fn unsolved(alloc: Global, spot: &Spot<'_>) -> Result<String, AllocEr
         return said(
             alloc,
             &["nothing here tells of what type it could be: write it, as in (None : option int)"],
+        );
+    }
+    if is_return_unfinished(spot.rest) {
+        return said(
+            alloc,
+            &[
+                "nothing here tells the type: is a ; missing behind this line, so that the next counts as an argument?",
+            ],
         );
     }
     if is_parameter(alloc, spot)? {
@@ -81,11 +132,6 @@ pub(crate) fn unsolved(alloc: Global, spot: &Spot<'_>) -> Result<String, AllocEr
     )
 }
 
-/// Whether a word begins with a small letter, as values do.
-fn begins_with_small(word: &str) -> bool {
-    word.starts_with(|c: char| c.is_ascii_lowercase())
-}
-
 /// Whether an element is an input, which names its field in braces.
 fn is_input(name: &str) -> bool {
     match name {
@@ -104,36 +150,4 @@ fn is_parameter(alloc: Global, spot: &Spot<'_>) -> Result<bool, AllocError> {
     }
     let open = innermost(alloc, spot.before)?;
     Ok(open.form == Form::Head)
-}
-
-/// What is told where no value says how something is done with values of a type, by what stands at its place.
-pub(crate) fn instance_sentence(rest: &str) -> &'static str {
-    if rest.starts_with("{[<xml>") {
-        return "{[..]} shows a value: markup is put in by {..}";
-    }
-    if rest.starts_with("{[") {
-        return "no value here says how to show this type, as for int, string and bool: is an argument missing?";
-    }
-    let behind = behind_operand(rest);
-    if rest.starts_with('"') && behind.starts_with('+') {
-        return "+ adds numbers: texts are joined by ^";
-    }
-    if behind.starts_with('+') {
-        return "no value in scope says how this type is added: are these texts? They are joined by ^";
-    }
-    if behind.starts_with('=') || behind.starts_with('<') || behind.starts_with('>') {
-        return "no value in scope says how this type is compared, as int, string and bool are";
-    }
-    "no value in scope says how this is done with values of this type"
-}
-
-/// What stands behind a name, a number or a string with which a text begins, and behind blanks.
-fn behind_operand(rest: &str) -> &str {
-    match rest.strip_prefix('"') {
-        Some(inner) => match inner.split_once('"') {
-            Some((_, behind)) => behind.trim_start(),
-            None => "",
-        },
-        None => behind_word(rest),
-    }
 }

@@ -1,6 +1,6 @@
 //! The sentences on names that aren't bound.
 use crate::scan::{Form, Open, innermost};
-use crate::spot::{Spot, behind_word, said, tag_of};
+use crate::spot::{Spot, begins_with_capital, behind_word, said, tag_of};
 use std::alloc::{AllocError, Global};
 
 /// What is told of a name that nothing has.
@@ -40,6 +40,7 @@ fn remedy(name: &str, spot: &Spot<'_>, form: Form) -> &'static str {
         "false" => ": write False, with a capital",
         "null" | "nil" => ": None is the option without a value, and [] the empty list",
         _ if is_field(spot, form) => ": fields begin with a capital letter",
+        _ if is_parameter(name, spot) => ": the name of a parameter begins with a small letter",
         _ => ": declare it before, or check how it is written",
     }
 }
@@ -54,4 +55,13 @@ fn is_field(spot: &Spot<'_>, form: Form) -> bool {
     form == Form::Curly
         && (before.ends_with('{') || before.ends_with(','))
         && (behind.starts_with('=') || behind.starts_with(':'))
+}
+
+/// Whether a name with a capital letter stands as a parameter does, with a type behind it.
+fn is_parameter(name: &str, spot: &Spot<'_>) -> bool {
+    let behind = behind_word(spot.rest);
+    begins_with_capital(name)
+        && spot.before.trim_end().ends_with('(')
+        && behind.starts_with(':')
+        && !behind.starts_with("::")
 }

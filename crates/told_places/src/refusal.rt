@@ -2,7 +2,8 @@
 ghost use Rattle.std.specs.Prelude.{IfSome, option_map};
 ghost use Rattle.told_places.specs.Refusals.{IsRead};
 
-use crate::sentence::{SENTENCE_OF_LINE, sentence_of, sentence_of_project};
+use crate::project::{SENTENCE_OF_LINE, start_of, told_of_line};
+use crate::sentence::{SENTENCE_OF_BYTES, sentence_of, sentence_of_project};
 use crate::spot::Spot;
 use crate::{tell_at, tell_whole};
 use std::alloc::{AllocError, Global};
@@ -77,14 +78,56 @@ fn tell_text(alloc: Global, refusal: &Refusal<'_>, bytes: &[u8]) -> Result<Strin
 }
 
 /// What a person is told of a line of a project file, counted from 1; 0 is the folder itself.
-fn tell_project(alloc: Global, refusal: &Refusal<'_>, line: &str) -> Result<String, AllocError> {
-    if line == "0" {
-        return tell_whole(alloc, refusal.file, sentence_of_project(refusal.file));
+fn tell_project(
+    alloc: Global,
+    refusal: &Refusal<'_>,
+    line: &str,
+    bytes: &[u8],
+) -> Result<String, AllocError> {
+    match line.parse::<usize>().ok() {
+        Some(0) => tell_whole(alloc, refusal.file, sentence_of_project(refusal.file)),
+        Some(number) if number == 1 || !bytes.is_empty() => tell_line(
+            alloc,
+            refusal.file,
+            number,
+            bytes,
+        ),
+        _ => tell_whole(alloc, refusal.file, SENTENCE_OF_LINE),
     }
-    let mut file = refusal.file.to_string(alloc)?;
-    file.push_str(":")?;
-    file.push_str(line)?;
-    tell_whole(alloc, file.as_str(), SENTENCE_OF_LINE)
+}
+
+/// What a person is told of a line of a project file, counted from 1.
+fn tell_line(alloc: Global, file: &str, number: usize, bytes: &[u8]) -> Result<String, AllocError> {
+    let text = text_of(bytes);
+    let from = start_of(text, number);
+    let before = text.get(..from).unwrap_or("");
+    let rest = text.get(from..).unwrap_or("");
+    if text.len() < bytes.len() && !rest.contains('\n') {
+        return tell_byte(alloc, file, text, text.len(), SENTENCE_OF_BYTES);
+    }
+    let told = told_of_line(before, rest);
+    tell_byte(
+        alloc,
+        file,
+        text,
+        from.saturating_add(told.at),
+        told.sentence,
+    )
+}
+
+/// Tells a sentence about a byte, or about the whole file where no character begins with it.
+fn tell_byte(
+    alloc: Global,
+    file: &str,
+    text: &str,
+    at: usize,
+    sentence: &str,
+) -> Result<String, AllocError> {
+    if text.is_char_boundary(at) {
+        tell_at(alloc, file, text, at, sentence)
+    } else {
+        tell_whole(alloc, file, sentence)
+    }
 }
 
 /// What a person is told of a refusal, over the bytes of its file.
@@ -94,7 +137,7 @@ pub fn tell_refusal(
     bytes: &[u8],
 ) -> Result<String, AllocError> {
     match refusal.at {
-        Some(line) if refusal.name == "BadProject" => tell_project(alloc, refusal, line),
+        Some(line) if refusal.name == "BadProject" => tell_project(alloc, refusal, line, bytes),
         _ => tell_text(alloc, refusal, bytes),
     }
 }

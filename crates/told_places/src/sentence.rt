@@ -1,8 +1,9 @@
 //! The sentences that tell a refusal in plain words.
-use crate::missing::{inexhaustive, instance_sentence, unsolved};
+use crate::instances::instance_sentence;
+use crate::missing::{inexhaustive, unsolved};
 use crate::names::unbound;
 use crate::scan::{Form, innermost};
-use crate::spot::{Spot, said, word_of};
+use crate::spot::{Spot, said, tag_of, word_of};
 use crate::syntax::{lacking, syntax_sentence};
 use crate::types::{kind_mismatch, mismatch};
 use std::alloc::{AllocError, Global};
@@ -22,6 +23,8 @@ pub(crate) fn sentence_of(
         "Unbound" => unbound(alloc, words, spot),
         "Inexhaustive" => inexhaustive(alloc, words, spot),
         "Unsolved" => unsolved(alloc, spot),
+        "NoInstance" => instance_sentence(alloc, spot),
+        "Redeclared" => redeclared(alloc, words, spot),
         _ => sentence_with_name(alloc, name, words, spot),
     }
 }
@@ -44,10 +47,6 @@ fn sentence_with_name(
                 ],
             )
         }
-        "Redeclared" => said(
-            alloc,
-            &["this is the second ", words, ": give it another name"],
-        ),
         _ => said(alloc, &[plain_sentence(name, spot)]),
     }
 }
@@ -58,8 +57,8 @@ fn plain_sentence(name: &str, spot: &Spot<'_>) -> &'static str {
         "FileTooLong" | "NotUtf8" | "OpenText" | "OpenComment" | "IntTooLarge" => of_text(name),
         "NotBuilt" => "this can be read, but isn't built yet (README.md says what is)",
         "MissingFile" => "the project names this module, but there is no such file",
-        "TooDeep" => too_deep(spot.rest),
-        "NoInstance" => instance_sentence(spot.rest),
+        "TooDeep" => too_deep(spot),
+        "LinkNotCall" => no_call(spot.rest),
         "NotSerialisable" => not_serialisable(spot.rest),
         _ => of_types(name),
     }
@@ -69,19 +68,43 @@ fn plain_sentence(name: &str, spot: &Spot<'_>) -> &'static str {
 fn of_text(name: &str) -> &'static str {
     match name {
         "FileTooLong" => "this is longer than 4194304 bytes, the most that a module may have",
-        "NotUtf8" => "from here on the bytes aren't UTF-8: save the file as UTF-8",
+        "NotUtf8" => SENTENCE_OF_BYTES,
         "OpenText" => "the string that begins here has no closing quote",
         "OpenComment" => "the comment that begins here isn't closed by a *)",
         _ => "this number is larger than 9223372036854775807, the largest one",
     }
 }
 
+/// A name that stands for the second time.
+fn redeclared(alloc: Global, name: &str, spot: &Spot<'_>) -> Result<String, AllocError> {
+    let open = innermost(alloc, spot.before)?;
+    if open.form == Form::Tag {
+        return said(
+            alloc,
+            &["the attribute ", name, " stands twice in this tag"],
+        );
+    }
+    said(
+        alloc,
+        &["this is the second ", name, ": give it another name"],
+    )
+}
+
 /// What lies too deep, by what stands where it does.
-fn too_deep(rest: &str) -> &'static str {
-    if rest.starts_with("::") {
-        "a list has at most 200 items in one term: make functions of its parts"
+fn too_deep(spot: &Spot<'_>) -> &'static str {
+    if spot.rest.starts_with("::") || spot.before.trim_end().ends_with("::") {
+        "a list has at most 199 items in one term, and one less for each level around it: make functions of its parts"
     } else {
         "this lies more than 200 levels deep (each ; and :: is one): make functions of its parts"
+    }
+}
+
+/// A link or an action that isn't a call.
+fn no_call(rest: &str) -> &'static str {
+    if tag_of(rest) == "submit" {
+        "a submit has an action, as in action={save}, where save is a top-level function that takes the form's fields"
+    } else {
+        "a link or an action is a call of a top-level function, with its arguments"
     }
 }
 
@@ -94,9 +117,9 @@ fn not_serialisable(rest: &str) -> &'static str {
     }
 }
 
-/// What is told of a line of a project file that may not stand there.
-pub(crate) const SENTENCE_OF_LINE: &str =
-    "a project file may not have this line, or lacks one here: directives, an empty line, modules";
+/// What is told where a file isn't UTF-8.
+pub(crate) const SENTENCE_OF_BYTES: &str =
+    "from here on the bytes aren't UTF-8: save the file as UTF-8";
 
 /// What is told of a project without a project file, or of a module alone that stands for one.
 pub(crate) fn sentence_of_project(file: &str) -> &'static str {
@@ -110,8 +133,6 @@ pub(crate) fn sentence_of_project(file: &str) -> &'static str {
 /// Refusals of types.
 fn of_types(name: &str) -> &'static str {
     match name {
-        "LinkNotCall" =>
-            "a link or an action is a call of a top-level function, with its arguments",
         "TooLarge" => "comparing the types here takes too many steps: make them smaller",
         "NoFolder" => "the fields of this row aren't known here: take a folder as a parameter",
         _ => "this is refused",
@@ -121,6 +142,12 @@ fn of_types(name: &str) -> &'static str {
 /// Why nothing that can be read begins here.
 fn bad_character(alloc: Global, spot: &Spot<'_>) -> Result<String, AllocError> {
     let open = innermost(alloc, spot.before)?;
+    if open.form == Form::Tag && spot.rest.starts_with('\'') {
+        return said(
+            alloc,
+            &["the value of an attribute stands in double quotes, as in title=\"a\""],
+        );
+    }
     if open.form == Form::Tag {
         return lacking(alloc, spot, open);
     }
@@ -132,7 +159,7 @@ fn plain_character(spot: &Spot<'_>, form: Form) -> &'static str {
     if spot.before.is_empty() && spot.rest.starts_with('\u{feff}') {
         "the file begins with a byte order mark: save it as UTF-8 without one"
     } else if spot.rest.starts_with('&') {
-        "no character has this name: write &amp; where a plain & is meant"
+        "no character has this name (a plain & is &amp;): there are &lt; &gt; &amp; &quot; &nbsp; and numbers, as &#169;"
     } else if spot.rest.starts_with('<') {
         "no tag begins like this: write &lt; where a plain < is meant"
     } else if spot.rest.starts_with('\\') {

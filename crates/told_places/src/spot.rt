@@ -49,6 +49,42 @@ pub(crate) fn behind_word(text: &str) -> &str {
         .trim_start()
 }
 
+/// The word with which a text ends.
+pub(crate) fn last_word(text: &str) -> &str {
+    let front = text.trim_end_matches(|c: char| is_word_part(c));
+    text.strip_prefix(front).unwrap_or("")
+}
+
+/// The last line of a text, as far as it goes.
+pub(crate) fn last_line(text: &str) -> &str {
+    match text.rsplit_once('\n') {
+        Some((_, line)) => line,
+        None => text,
+    }
+}
+
+/// Whether a text begins with a capital letter.
+pub(crate) fn begins_with_capital(text: &str) -> bool {
+    text.starts_with(|c: char| c.is_ascii_uppercase())
+}
+
+/// Whether a text begins with a small letter.
+pub(crate) fn begins_with_small(text: &str) -> bool {
+    text.starts_with(|c: char| c.is_ascii_lowercase())
+}
+
+/// A text up to the next line that begins without a blank.
+pub(crate) fn declaration_of(rest: &str) -> &str {
+    let mut last = ' ';
+    for (at, character) in rest.char_indices() {
+        if last == '\n' && !character.is_whitespace() {
+            return rest.get(..at).unwrap_or("");
+        }
+        last = character;
+    }
+    rest
+}
+
 /// Whether a place stands at the start of a line.
 pub(crate) fn begins_line(before: &str) -> bool {
     before.is_empty() || before.ends_with('\n')

@@ -1,5 +1,7 @@
 //! The sentences on places at which no module goes on as this one does.
+use crate::actions::of_actions;
 use crate::place::place_of;
+use crate::reserved::no_name;
 use crate::scan::{Form, Open, innermost};
 use crate::spot::{Spot, begins_line, is_declaration_word, said, tag_of, word_of};
 use std::alloc::{AllocError, Global};
@@ -18,7 +20,16 @@ pub(crate) fn syntax_sentence(alloc: Global, spot: &Spot<'_>) -> Result<String, 
     {
         return closing_name(alloc, spot.before, open, word_of(inner));
     }
-    match plain_syntax(spot, open.form) {
+    match no_name(alloc, spot, open.form)? {
+        Some(sentence) => Ok(sentence),
+        None => of_form(alloc, spot, open),
+    }
+}
+
+/// What is told of a place in an open form.
+fn of_form(alloc: Global, spot: &Spot<'_>, open: Open) -> Result<String, AllocError> {
+    let text = spot.before.get(open.from..).unwrap_or("");
+    match plain_syntax(spot, open.form, text) {
         Some(sentence) => said(alloc, &[sentence]),
         None => lacking(alloc, spot, open),
     }
@@ -150,11 +161,15 @@ fn closer<'a>(spot: &Spot<'a>) -> &'a str {
     }
 }
 
-/// A sentence on what stands at a place; none, where it is the innermost open form that lacks something.
-fn plain_syntax(spot: &Spot<'_>, form: Form) -> Option<&'static str> {
+/// A sentence on what stands at a place; none, where the innermost open form, of this text, lacks something.
+fn plain_syntax(spot: &Spot<'_>, form: Form, text: &str) -> Option<&'static str> {
     let written = other_sign(spot, form);
     if !written.is_empty() {
         return Some(written);
+    }
+    let between = of_actions(spot, form, text);
+    if !between.is_empty() {
+        return Some(between);
     }
     if spot.rest.is_empty() || is_declaration_word(word_of(spot.rest)) {
         return of_end(spot.rest, form);

@@ -1,5 +1,8 @@
 //! The sentences on types that differ.
-use crate::spot::{Spot, is_declaration_word, said, tag_of, word_of};
+use crate::hints::{hint, is_shown};
+use crate::scan::{Form, innermost};
+use crate::spot::{Spot, said, tag_of, word_of};
+use crate::units::{Use, use_of, with_units};
 use std::alloc::{AllocError, Global};
 
 /// What is told of two types that differ. The words are `wanted TYPE found TYPE`.
@@ -16,9 +19,32 @@ pub(crate) fn mismatch(alloc: Global, words: &str, spot: &Spot<'_>) -> Result<St
     {
         return other_place(alloc, tag_of(spot.rest), where_of(wanted), where_of(found));
     }
+    if wanted == "( )" {
+        return nothing_held(alloc, found, spot);
+    }
+    match dropped_value(wanted, found, spot.rest) {
+        Some(given) => dropped(alloc, given),
+        None => of_values(alloc, wanted, found, spot),
+    }
+}
+
+/// What is told of the types of two values.
+fn of_values(
+    alloc: Global,
+    wanted: &str,
+    found: &str,
+    spot: &Spot<'_>,
+) -> Result<String, AllocError> {
     match lacked_field(wanted) {
         Some(field) if found.starts_with("$ [") => no_field(alloc, field, found),
-        _ => differ(alloc, wanted, found, hint(wanted, found, spot.rest)),
+        _ if is_shown(found) && is_unit_of_splice(alloc, wanted, spot)? => no_markup(alloc, found),
+        _ if wanted == "string" && found.starts_with("xml ") && is_splice(alloc, spot.before)? => {
+            said(
+                alloc,
+                &["a title holds texts and {[..]} alone, but this is markup"],
+            )
+        }
+        _ => differ(alloc, wanted, found, spot),
     }
 }
 
@@ -44,14 +70,43 @@ fn sides_of(words: &str) -> (&str, &str) {
 }
 
 /// Two types that differ, and what is likely meant.
-fn differ(alloc: Global, wanted: &str, found: &str, hint: &str) -> Result<String, AllocError> {
+fn differ(alloc: Global, wanted: &str, found: &str, spot: &Spot<'_>) -> Result<String, AllocError> {
+    let found_type = with_units(alloc, found_type(found, spot.rest))?;
+    let wanted_type = with_units(alloc, wanted_type(wanted, spot))?;
+    differing(
+        alloc,
+        subject(found, spot.rest),
+        found_type.as_str(),
+        wanted_type.as_str(),
+        hint(wanted, found, spot),
+    )
+}
+
+/// What has a type, by its type and the text from it on.
+fn subject(found: &str, rest: &str) -> &'static str {
+    if found == "$ [ ]" && rest.starts_with("()") {
+        "()"
+    } else {
+        "this"
+    }
+}
+
+/// What has a type, this type, the wanted one, and what is likely meant.
+fn differing(
+    alloc: Global,
+    subject: &str,
+    found: &str,
+    wanted: &str,
+    hint: &str,
+) -> Result<String, AllocError> {
     said(
         alloc,
         &[
-            "this has the type ",
-            shown_type(found),
+            subject,
+            " has the type ",
+            found,
             ", but ",
-            shown_type(wanted),
+            wanted,
             " is wanted here",
             hint,
         ],
@@ -62,10 +117,105 @@ fn differ(alloc: Global, wanted: &str, found: &str, hint: &str) -> Result<String
 fn shown_type(words: &str) -> &str {
     match words {
         "( ) -> ( )" => "a function",
-        "$ [ ]" => "a record",
+        "transaction ( )" => "an action",
         "[ [ ] ~ [ ] ] => ( )" => "what takes a !",
         _ => words,
     }
+}
+
+/// A found type as it is told: that of the empty record stands for any record at a pattern of one.
+fn found_type<'a>(found: &'a str, rest: &str) -> &'a str {
+    let is_pattern = rest.starts_with('{') || rest.starts_with('(');
+    if found == "$ [ ]" && is_pattern && !rest.starts_with("()") && !rest.starts_with("{}") {
+        "a record"
+    } else {
+        shown_type(found)
+    }
+}
+
+/// A wanted type as it is told: that of the empty record stands for any record where the text uses one.
+fn wanted_type<'a>(wanted: &'a str, spot: &Spot<'_>) -> &'a str {
+    if wanted != "$ [ ]" {
+        return shown_type(wanted);
+    }
+    match use_of(spot) {
+        Use::Record => "a record",
+        Use::Unit => "unit",
+        Use::Either => "unit or a record",
+    }
+}
+
+/// Whether unit is wanted of what stands alone in a splice, which no text of a program asks for: a title's splice does.
+fn is_unit_of_splice(alloc: Global, wanted: &str, spot: &Spot<'_>) -> Result<bool, AllocError> {
+    if wanted != "$ [ ]" || use_of(spot) == Use::Record {
+        return Ok(false);
+    }
+    is_splice(alloc, spot.before)
+}
+
+/// Whether a text ends with the brace that begins a splice between tags.
+fn is_splice(alloc: Global, before: &str) -> Result<bool, AllocError> {
+    match before.trim_end().strip_suffix('{') {
+        Some(front) => Ok(innermost(alloc, front)?.form == Form::Element),
+        None => Ok(false),
+    }
+}
+
+/// A value where markup is put in.
+fn no_markup(alloc: Global, found: &str) -> Result<String, AllocError> {
+    said(
+        alloc,
+        &[
+            "this has the type ",
+            found,
+            ", but {..} puts markup in: {[..]} shows a value",
+        ],
+    )
+}
+
+/// What stands in an element that holds nothing.
+fn nothing_held(alloc: Global, found: &str, spot: &Spot<'_>) -> Result<String, AllocError> {
+    let mut open = innermost(alloc, spot.before)?;
+    if open.form == Form::Curly {
+        open = innermost(alloc, spot.before.get(..open.from).unwrap_or(""))?;
+    }
+    match tag_of(spot.before.get(open.from..).unwrap_or("")) {
+        "" => differ(alloc, "( )", found, spot),
+        "submit" => said(
+            alloc,
+            &[
+                "the element submit holds nothing: it ends with />, and shows its value, as in value=\"Send\"",
+            ],
+        ),
+        name => said(
+            alloc,
+            &["the element ", name, " holds nothing: it ends with />"],
+        ),
+    }
+}
+
+/// The type of what the action before a `;` gives, where it isn't unit.
+fn dropped_value<'a>(wanted: &'a str, found: &str, rest: &str) -> Option<&'a str> {
+    let next = found.strip_prefix("$ [ ] -> ")?;
+    let given = wanted.strip_suffix(next)?.strip_suffix(" -> ")?;
+    if rest.starts_with(';') {
+        Some(given)
+    } else {
+        None
+    }
+}
+
+/// An action before a `;` that gives something else than unit.
+fn dropped(alloc: Global, given: &str) -> Result<String, AllocError> {
+    let given = with_units(alloc, given)?;
+    said(
+        alloc,
+        &[
+            "the action before this ; gives a value of the type ",
+            given.as_str(),
+            ", which nothing takes: write _ <- before it",
+        ],
+    )
 }
 
 /// The word or sign with which a text begins, where it has bools beside it.
@@ -147,91 +297,4 @@ fn no_field(alloc: Global, field: &str, found: &str) -> Result<String, AllocErro
         alloc,
         &["this record has no field ", field, ": its type is ", found],
     )
-}
-
-/// What is likely meant, behind a colon, or nothing.
-fn hint(wanted: &str, found: &str, rest: &str) -> &'static str {
-    match wanted {
-        "( ) -> ( )" => hint_of_call(rest),
-        "[ [ ] ~ [ ] ] => ( )" => ": if unequal is meant, it is written <>",
-        "$ [ ]" => hint_of_record(found, rest),
-        "url" if found == "string" => ": bless makes a url of a string",
-        "string" if found == "int" || found == "bool" => ": show makes a string of a value",
-        _ => hint_of_action(wanted, found),
-    }
-}
-
-/// Where something that is no function is given an argument.
-fn hint_of_call(rest: &str) -> &'static str {
-    match rest.split_once('\n') {
-        Some((_, next)) if begins_unread(next) => ": does the next line lack its fun or val?",
-        _ => ": is an argument too many, or a comma missing?",
-    }
-}
-
-/// Whether a line begins with a name that is no word of declarations.
-fn begins_unread(line: &str) -> bool {
-    let word = word_of(line);
-    !word.is_empty() && word != "and" && !is_declaration_word(word)
-}
-
-/// Where something is used as a record that is none.
-fn hint_of_record(found: &str, rest: &str) -> &'static str {
-    match found {
-        "string" => ": texts are joined by ^, and ++ joins records",
-        "int" if is_fraction(rest) => ": no number has a fraction",
-        _ => "",
-    }
-}
-
-/// Whether a text begins with a number and a point behind it.
-fn is_fraction(rest: &str) -> bool {
-    match rest.strip_prefix(word_of(rest)) {
-        Some(behind) => behind.starts_with('.'),
-        None => false,
-    }
-}
-
-/// Where an action stands for what it gives, or the other way round, and what is likely meant beside it.
-fn hint_of_action(wanted: &str, found: &str) -> &'static str {
-    if is_action_of(wanted, found) {
-        ": write return before it"
-    } else if is_action_of(found, wanted) {
-        ": bind what the action gives before, as in x <- e;"
-    } else if wanted.starts_with("xml ") && is_shown(found) {
-        ": {[..]} shows a value"
-    } else if gives(found, wanted) {
-        ": is an argument missing?"
-    } else {
-        ""
-    }
-}
-
-/// Whether a type is that of actions that give the other one.
-fn is_action_of(action: &str, given: &str) -> bool {
-    match action.strip_prefix("transaction ") {
-        Some(inner) => without_brackets(inner) == without_brackets(given),
-        None => false,
-    }
-}
-
-/// A type without the brackets around it.
-fn without_brackets(words: &str) -> &str {
-    match words.strip_prefix("( ") {
-        Some(inner) => inner.strip_suffix(" )").unwrap_or(words),
-        None => words,
-    }
-}
-
-/// Whether every value of this type can be shown.
-fn is_shown(words: &str) -> bool {
-    words == "int" || words == "string" || words == "bool"
-}
-
-/// Whether a type is that of functions that give the other one in the end.
-fn gives(function: &str, given: &str) -> bool {
-    match function.strip_suffix(given) {
-        Some(arguments) => arguments.ends_with("-> "),
-        None => false,
-    }
 }

@@ -10,7 +10,6 @@ use Rattle.surface_grammar.specs.declared.part.Part.TheVariants.{Many}
 use Rattle.surface_grammar.specs.Refusals.{deepest, Whole}
 use Rattle.surface_grammar.specs.Trees.{Node, spell}
 use Rattle.grammar_engine.specs.Exact.{FaultExact}
-use Rattle.ur_parser.specs.Small.{Module, IsSmall}
 
 -- a module is any number of declarations
 abbrev pub module_part : Part
@@ -37,10 +36,6 @@ IsModuleText tokens = (n : Node) × Whole deepest module_part n × (spell n ≡ 
 -- the same of an interface
 abbrev pub IsInterfaceText : List Token → Type 0
 IsInterfaceText tokens = (n : Node) × Whole deepest interface_part n × (spell n ≡ tokens)
-
--- a module of the small form is a module: the whole grammar has a tree for it, no deeper than 200
-abbrev pub SmallModulesAreModules : Type 0
-SmallModulesAreModules = (tokens : List Token) (m : Module) → IsSmall tokens m → IsModuleText tokens
 
 -- tokens have one fault at most; want of memory says nothing of them
 abbrev pub ModulesHaveOneFault : Type 0

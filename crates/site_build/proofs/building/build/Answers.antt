@@ -1,9 +1,13 @@
 use Rattle.std.proofs.Common.{IfSome}
+use Rattle.std.proofs.lemmas.Result.{err_from_is_err_and}
 use Rattle.core_terms.specs.View.{program_view}
 use Rattle.plain_projects.specs.Listed.{AreWhole}
-use Rattle.project_sources.specs.Projects.{ProjectTrees}
+use Rattle.project_sources.specs.Projects.{IsCause, ProjectTrees}
 use Rattle.project_sources.specs.View.{IsProject, ListsProject}
+use Rattle.site_build.specs.Causes.{IsCauseIn}
+use Rattle.site_build.specs.Lines.{of_source}
 use Rattle.site_build.specs.Sources.{IsProgramIn, IsProgramOf}
+use Rattle.site_build.proofs.Causes.{unread_in}
 use Rattle.site_build.proofs.Sources.{where_ok, where_told, whole_modules}
 use Rattle.site_build.proofs.building.build.Goals as goal
 
@@ -19,3 +23,13 @@ returns-clause-source g c =
     (λ files q. (q.0, q.1, given q.0 q.2 (whole_modules files dir q.0.said.modules q.0.modules q.1.modules)))
     c.in_ok-sources.ensures.whole)
     c.site_of.ensures.source
+
+pub returns-in_err-sources-clause-refused : goal.returns-in_err-sources-clause-refused
+returns-in_err-sources-clause-refused g c =
+    let told = g.F.Files.told c.args.files.now in
+    let dir = c.args.dir.now in
+    let objects = c.args.objects.now in
+    let fault = c.in_err-sources.field-0.0 in
+    let p = err_from_is_err_and c.from_residual.result c.from_residual.ensures.1 in
+    rw (p.1, p.2) (where_told told (λ files. IsCause files dir objects fault) (λ files. IsCauseIn files dir objects (of_source fault))
+    (λ files h. unread_in files dir objects fault h) c.in_err-sources.ensures.told)

@@ -1,0 +1,104 @@
+//! What is likely meant where two types differ.
+use crate::actions::{begins_action, ends_operand};
+use crate::spot::{Spot, is_declaration_word, word_of};
+use crate::units::{Use, is_projected, use_of};
+
+/// What is likely meant, behind a colon, or nothing.
+pub(crate) fn hint(wanted: &str, found: &str, spot: &Spot<'_>) -> &'static str {
+    match wanted {
+        "( ) -> ( )" => hint_of_call(found, spot.rest),
+        "[ [ ] ~ [ ] ] => ( )" => ": if unequal is meant, it is written <>",
+        "$ [ ]" => hint_of_record(found, spot),
+        "url" if found == "string" => ": bless makes a url of a string",
+        "string" if found == "int" || found == "bool" => ": show makes a string of a value",
+        _ => hint_of_action(wanted, found),
+    }
+}
+
+/// Where something that is no function is given an argument.
+fn hint_of_call(found: &str, rest: &str) -> &'static str {
+    match rest.split_once('\n') {
+        Some((line, next))
+            if found.starts_with("transaction ") && ends_operand(line) && begins_action(next) =>
+            ": is a ; missing at the end of the line, or an argument too many?",
+        Some((_, next)) if begins_unread(next) => ": does the next line lack its fun or val?",
+        _ => ": is an argument too many, or a comma missing?",
+    }
+}
+
+/// Whether a line begins with a name that is no word of declarations.
+fn begins_unread(line: &str) -> bool {
+    let word = word_of(line);
+    !word.is_empty() && word != "and" && !is_declaration_word(word)
+}
+
+/// Where unit or a record is wanted.
+fn hint_of_record(found: &str, spot: &Spot<'_>) -> &'static str {
+    match use_of(spot) {
+        Use::Unit => ": its one value is ()",
+        Use::Record if found == "string" && !is_projected(spot) =>
+            ": texts are joined by ^, and ++ joins records",
+        Use::Record if found == "int" && is_fraction(spot.rest) => ": no number has a fraction",
+        _ => "",
+    }
+}
+
+/// Whether a text begins with a number, and a point with another one behind it.
+fn is_fraction(rest: &str) -> bool {
+    match rest
+        .trim_start_matches(|c: char| c.is_ascii_digit())
+        .strip_prefix('.')
+    {
+        Some(behind) => begins_with_digit(rest) && begins_with_digit(behind),
+        None => false,
+    }
+}
+
+/// Whether a text begins with a digit.
+fn begins_with_digit(text: &str) -> bool {
+    text.starts_with(|c: char| c.is_ascii_digit())
+}
+
+/// Where an action stands for what it gives, or the other way round, and what is likely meant beside it.
+fn hint_of_action(wanted: &str, found: &str) -> &'static str {
+    if is_action_of(wanted, found) {
+        ": write return before it"
+    } else if is_action_of(found, wanted) {
+        ": bind what the action gives before, as in x <- e;"
+    } else if wanted.starts_with("xml ") && is_shown(found) {
+        ": {[..]} shows a value"
+    } else if gives(found, wanted) {
+        ": is an argument missing?"
+    } else {
+        ""
+    }
+}
+
+/// Whether a type is that of actions that give the other one.
+fn is_action_of(action: &str, given: &str) -> bool {
+    match action.strip_prefix("transaction ") {
+        Some(inner) => without_brackets(inner) == without_brackets(given),
+        None => false,
+    }
+}
+
+/// A type without the brackets around it.
+fn without_brackets(words: &str) -> &str {
+    match words.strip_prefix("( ") {
+        Some(inner) => inner.strip_suffix(" )").unwrap_or(words),
+        None => words,
+    }
+}
+
+/// Whether every value of this type can be shown.
+pub(crate) fn is_shown(words: &str) -> bool {
+    words == "int" || words == "string" || words == "bool"
+}
+
+/// Whether a type is that of functions that give the other one in the end.
+fn gives(function: &str, given: &str) -> bool {
+    match function.strip_suffix(given) {
+        Some(arguments) => arguments.ends_with("-> "),
+        None => false,
+    }
+}

@@ -1,0 +1,188 @@
+//! The sentences on names that can't be names where they stand.
+use crate::scan::Form;
+use crate::spot::{
+    Spot, begins_with_capital, begins_with_small, behind_word, declaration_of, is_declaration_word,
+    last_line, last_word, said, word_of,
+};
+use std::alloc::{AllocError, Global};
+
+/// What is told where a name stands that can't be one at this place, if it is so.
+pub(crate) fn no_name(
+    alloc: Global,
+    spot: &Spot<'_>,
+    form: Form,
+) -> Result<Option<String>, AllocError> {
+    let word = word_of(spot.rest);
+    let declared = declarator(spot.before);
+    if is_reserved(word) && (!declared.is_empty() || is_name_place(spot, form)) {
+        return Ok(Some(reserved(alloc, word)?));
+    }
+    if begins_with_capital(word) && !declared.is_empty() {
+        return Ok(Some(capital(alloc, declared, word)?));
+    }
+    if begins_with_small(word) && !is_reserved(word) && awaits_constructor(spot.before) {
+        return Ok(Some(small(alloc, word)?));
+    }
+    Ok(None)
+}
+
+/// A reserved word.
+fn reserved(alloc: Global, word: &str) -> Result<String, AllocError> {
+    said(
+        alloc,
+        &[word, " is a reserved word, so it can't be a name here"],
+    )
+}
+
+/// A name with a capital letter behind a word that declares others.
+fn capital(alloc: Global, declared: &str, name: &str) -> Result<String, AllocError> {
+    said(
+        alloc,
+        &[
+            "the name behind ",
+            declared,
+            " begins with a small letter, not with a capital as ",
+            name,
+        ],
+    )
+}
+
+/// The name of a constructor with a small letter.
+fn small(alloc: Global, name: &str) -> Result<String, AllocError> {
+    said(
+        alloc,
+        &[
+            "the name of a constructor begins with a capital letter, not with a small one as ",
+            name,
+        ],
+    )
+}
+
+/// The word right before a place, in its line, behind which a name is declared; or nothing.
+fn declarator(before: &str) -> &str {
+    let word = last_word(last_line(before).trim_end());
+    if is_declaration_word(word) || word == "rec" || word == "and" || word == "fn" {
+        word
+    } else {
+        ""
+    }
+}
+
+/// Whether the signs beside a word show that it is meant as a name.
+fn is_name_place(spot: &Spot<'_>, form: Form) -> bool {
+    let before = spot.before.trim_end();
+    let behind = behind_word(spot.rest);
+    spot.before.ends_with('.')
+        || spot.before.ends_with('#')
+        || behind.starts_with("<-")
+        || behind.starts_with("=>")
+        || behind.starts_with(':') && !behind.starts_with("::")
+        || opens_name(before) && closes_name(behind)
+        || form == Form::Head && is_parameter(spot)
+}
+
+/// Whether a name may stand behind the sign with which a text ends.
+fn opens_name(before: &str) -> bool {
+    before.ends_with('(') || before.ends_with('[') || before.ends_with('{') || before.ends_with(',')
+}
+
+/// Whether a name may stand before the sign with which a text begins.
+fn closes_name(behind: &str) -> bool {
+    behind.starts_with(')')
+        || behind.starts_with(']')
+        || behind.starts_with('}')
+        || behind.starts_with(',')
+        || behind.starts_with('=')
+}
+
+/// Whether a word in the head of a declaration stands as a parameter may, in the same line.
+fn is_parameter(spot: &Spot<'_>) -> bool {
+    if last_line(spot.before).trim_start().is_empty() {
+        return false;
+    }
+    match word_of(spot.rest) {
+        "and"
+        | "case"
+        | "else"
+        | "end"
+        | "fn"
+        | "fun"
+        | "if"
+        | "in"
+        | "let"
+        | "of"
+        | "then"
+        | "val" => false,
+        _ => true,
+    }
+}
+
+/// Whether a text ends where a constructor of a datatype has to follow.
+fn awaits_constructor(before: &str) -> bool {
+    let front = before.trim_end();
+    match before.rsplit_once("datatype ") {
+        Some((_, tail)) if declaration_of(tail).len() == tail.len() => front.ends_with('=')
+            || front.ends_with('|'),
+        _ => false,
+    }
+}
+
+/// Whether a word is reserved.
+fn is_reserved(word: &str) -> bool {
+    match word {
+        "and"
+        | "case"
+        | "con"
+        | "cookie"
+        | "datatype"
+        | "else"
+        | "end"
+        | "fn"
+        | "fun"
+        | "functor"
+        | "if"
+        | "in" => true,
+        "let"
+        | "of"
+        | "open"
+        | "rec"
+        | "sequence"
+        | "sig"
+        | "signature"
+        | "struct"
+        | "structure"
+        | "table" => true,
+        "then" | "type" | "val" | "where" => true,
+        _ => is_reserved_in_queries(word),
+    }
+}
+
+/// Whether a word is one of SQL.
+fn is_reserved_in_queries(word: &str) -> bool {
+    match word {
+        "AND"
+        | "AS"
+        | "ASC"
+        | "BY"
+        | "CONSTRAINT"
+        | "DELETE"
+        | "DESC"
+        | "FALSE"
+        | "FROM"
+        | "INSERT"
+        | "INTO" => true,
+        "IS"
+        | "JOIN"
+        | "KEY"
+        | "LEFT"
+        | "LIMIT"
+        | "NOT"
+        | "NULL"
+        | "OFFSET"
+        | "ON"
+        | "OR"
+        | "ORDER" => true,
+        "PRIMARY" | "SELECT" | "SET" | "TRUE" | "UNIQUE" | "UPDATE" | "VALUES" | "WHERE" => true,
+        _ => false,
+    }
+}

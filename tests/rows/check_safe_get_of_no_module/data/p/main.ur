@@ -1,0 +1,1 @@
+fun main () : transaction page = return <xml><body/></xml>
