@@ -72,7 +72,9 @@ pub unbuilt_listed : (ss : List ModuleSource) (i : ℕ) (s : ModuleSource) (file
 unbuilt_listed [] i s file at h is before here name ms lists = absurd (omega (arith, h))
 unbuilt_listed (x ∷ ss) i s file at h is before here name [] lists = absurd lists
 unbuilt_listed (x ∷ ss) zero s file at h is before here name (m ∷ ms) (one, rest) =
-    inl (name ∙ ap (λ (y : ModuleSource). module_file y.line) is ∙ ap module_file one.line,
-    subst (λ (l : List Token). IsFirstUnbuilt l (Some at)) one.tree.0 (subst (λ (y : ModuleSource). IsFirstUnbuilt y.tree.leaves (Some at)) is here))
+    inl (
+      name ∙ ap (λ (y : ModuleSource). module_file y.line) is ∙ ap module_file one.line,
+      subst (λ (l : List Token). IsFirstUnbuilt l (Some at)) one.tree.0 (subst (λ (y : ModuleSource). IsFirstUnbuilt y.tree.leaves (Some at)) is here),
+    )
 unbuilt_listed (x ∷ ss) (suc i) s file at h is before here name (m ∷ ms) (one, rest) =
     inr (subst (λ (l : List Token). IsFirstUnbuilt l None) one.tree.0 before.0, unbuilt_listed ss i s file at (omega (arith, h)) is before.1 here name ms rest)

@@ -146,20 +146,23 @@ unshown p routes callees call number line routed read called s (inl c) =
       line_is = c.line_is;
     })
 unshown p routes callees call number line routed read called s (inr (d, e)) =
-    inr (record {
-      routes = routes;
-      callees = callees;
-      routed = routed;
-      call = call;
-      read = read;
-      number = number;
-      called = called;
-      entry = s.entry;
-      is_entry = s.is_entry;
-      values = s.values;
-      given = s.given;
-      nested = d;
-    }, e)
+    inr (
+      record {
+        routes = routes;
+        callees = callees;
+        routed = routed;
+        call = call;
+        read = read;
+        number = number;
+        called = called;
+        entry = s.entry;
+        is_entry = s.is_entry;
+        values = s.values;
+        given = s.given;
+        nested = d;
+      },
+      e,
+    )
 
 pub main_stops : (p : Pg) (routes : Rts) (callees : List ℕ) (call : Cl) (number : ℕ) (why : NoPage) → RoutesOf p routes callees
     → Route routes main_asked.post main_asked.path call → slice_get callees call.entry ≡ Some number → Tells (StopsAt p routes call number) why → Tells (IsUnshown p) why
