@@ -1,6 +1,8 @@
 -- The laws of the table. Behind each file: the public clause for which it serves.
 -- `read_part`: beginning rules comes to an end
 pub mod Ranks
+-- `laws.one_token_decides`: what is computed, over the words of each form
+pub mod ByWords
 -- `laws.one_token_decides`; `choose`
 pub mod Decided
 -- `choose`: `chosen`

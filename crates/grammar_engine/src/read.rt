@@ -204,6 +204,7 @@ fn is_bind(
 
 /// Whether an option of the form is taken.
 #[cycle(read)]
+#[tactic(auto, unfolding(surface_grammar::specs::Firsts::first_of))]
 fn goes_on(
     machine: &mut Machine,
     alloc: Global,

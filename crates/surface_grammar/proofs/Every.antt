@@ -34,15 +34,15 @@ every_form p [] = true
 every_form p (g ∷ gs) = p g && every_form p gs
 
 -- each form stands in the list at its place; the last line stands for each other form, and is checked for each
-found : (g : Form) → get_or forms (tag_of the_type g) f.KindTerm ≡ g
+pub found : (g : Form) → get_or forms (tag_of the_type g) f.KindTerm ≡ g
 found f.KindTerm = refl
 found _ = refl
 
-low : (g : Form) → nat_lt (tag_of the_type g) (length forms) ≡ true
+pub low : (g : Form) → nat_lt (tag_of the_type g) (length forms) ≡ true
 low f.KindTerm = refl
 low _ = refl
 
-less : (a b : ℕ) → nat_lt a b ≡ true → a < b
+pub less : (a b : ℕ) → nat_lt a b ≡ true → a < b
 less a b h = search (arith, h)
 
 and_left : (a b : Bool) → (a && b) ≡ true → a ≡ true

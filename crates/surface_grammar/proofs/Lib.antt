@@ -4,3 +4,5 @@ pub mod Codes
 pub mod Every
 -- `laws.words_are_computed`
 pub mod Firsts
+-- each law of all forms that speaks of the words with which they begin, above
+pub mod Listed

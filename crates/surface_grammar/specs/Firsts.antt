@@ -1,15 +1,14 @@
--- The words that begin a tree of a form, computed from the rules.
-use Rattle.std.specs.Prelude.{◌≡◌, ℕ, zero, suc, Bool, false, ◌||◌, ◌==◌, if◌then◌else◌, List, [], ◌∷◌, ◌++◌}
+-- The words that begin a tree of a form, as the rules give them.
+use Rattle.std.specs.Prelude.{◌≡◌, ◌+◌, ℕ, zero, suc, Bool, false, ◌||◌, ◌==◌, if◌then◌else◌, List, [], ◌∷◌, ◌++◌}
 use Rattle.surface_tree.specs.declared.kind.Kind.{Kind}
 use Rattle.surface_grammar.specs.declared.form.Form.{Form}
 use Rattle.surface_grammar.specs.declared.part.Part.{Part}
 use Rattle.surface_grammar.specs.declared.part.Part.TheVariants.{Word, One, Many, Maybe}
 use Rattle.surface_grammar.specs.declared.rule.Rule.{Rule}
-use Rattle.surface_grammar.specs.Forms.{rules_of, first_of}
+use Rattle.surface_grammar.specs.Forms.{rules_of}
 use Rattle.surface_grammar.specs.Sides.{bars_of}
 use Rattle.surface_grammar.specs.Table.{body_of}
-use Rattle.surface_grammar.specs.Trees.{any_accepts}
-use Rattle.surface_grammar.specs.Words.{kind_code}
+use Rattle.surface_grammar.specs.Words.{kind_code, any_accepts}
 
 -- the word stands in the list
 abbrev pub holds : Kind → List Kind → Bool
@@ -45,6 +44,10 @@ abbrev pub first_in : ℕ → Form → List Kind
 first_in zero g = []
 first_in (suc n) g = rule_heads (first_in n) (rules_of g)
 
--- the table has the computed words; sixteen trees within each other are as many as begin with one token
+-- the words that begin a tree of the form: sixteen trees within each other are as many as begin with one token
+unfoldable pub first_of : Form → List Kind
+first_of g = first_in 16 g
+
+-- more trees within each other add no word
 abbrev pub WordsAreComputed : Type 0
-WordsAreComputed = (g : Form) → (first_of g ≡ first_in 16 g) × (first_of g ≡ first_in 17 g)
+WordsAreComputed = (g : Form) (more : ℕ) → first_in (16 + more) g ≡ first_of g

@@ -6,8 +6,8 @@ use Rattle.surface_grammar.specs.declared.part.Part.TheVariants.{Word, One, Many
 use Rattle.surface_grammar.specs.declared.rule.Rule.{Rule}
 use Rattle.surface_grammar.specs.Sides.{bars_of}
 use Rattle.surface_grammar.specs.Table.{body_of}
-use Rattle.surface_grammar.specs.Trees.{any_accepts, begins}
-use Rattle.surface_grammar.specs.Words.{accept}
+use Rattle.surface_grammar.specs.Trees.{begins}
+use Rattle.surface_grammar.specs.Words.{accept, any_accepts}
 
 -- the token begins the parts: the first of them, or a later one where those before it may be empty
 abbrev pub leads : List Part → Kind → Bool

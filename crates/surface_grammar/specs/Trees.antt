@@ -1,5 +1,5 @@
 -- The trees of the grammar: what they spell, and which of them are of a form.
-use Rattle.std.specs.Prelude.{◌≡◌, ℕ, ◌+◌, ◌⊎◌, Bool, true, false, not, ◌&&◌, ◌||◌, if◌then◌else◌, List, [], ◌∷◌, ◌++◌, Option, Some, None}
+use Rattle.std.specs.Prelude.{◌≡◌, ℕ, ◌+◌, ◌⊎◌, Bool, true, false, not, ◌&&◌, if◌then◌else◌, List, [], ◌∷◌, ◌++◌, Option, Some, None}
 use Rattle.surface_tree.specs.declared.kind.Kind.{Kind}
 use Rattle.surface_tree.specs.declared.kind.Kind.TheVariants as k
 use Rattle.surface_tree.specs.declared.token.Token.{Token}
@@ -9,10 +9,11 @@ use Rattle.surface_grammar.specs.declared.form.Form.TheVariants as f
 use Rattle.surface_grammar.specs.declared.part.Part.{Part}
 use Rattle.surface_grammar.specs.declared.part.Part.TheVariants.{Word, One, Many, Maybe}
 use Rattle.surface_grammar.specs.declared.rule.Rule.{Rule}
-use Rattle.surface_grammar.specs.Forms.{rules_of, first_of}
+use Rattle.surface_grammar.specs.Firsts.{first_of}
+use Rattle.surface_grammar.specs.Forms.{rules_of}
 use Rattle.surface_grammar.specs.Sides.{is_deep, bars_of, is_element, is_tag}
 use Rattle.surface_grammar.specs.Table.{body_of}
-use Rattle.surface_grammar.specs.Words.{accept}
+use Rattle.surface_grammar.specs.Words.{accept, any_accepts}
 
 mutual
   -- a tree: a token; a rule with a tree for each of its parts; for a part that repeats, its trees;
@@ -46,11 +47,7 @@ abbrev pub front : List Token → Option Kind → Option Kind
 front [] x = x
 front (t ∷ ts) x = Some t.kind
 
--- one of the words takes the token
-abbrev pub any_accepts : List Kind → Kind → Bool
-any_accepts [] x = false
-any_accepts (w ∷ ws) x = accept w x || any_accepts ws x
-
+-- one of the words takes the token, where there is one
 abbrev pub among : List Kind → Option Kind → Bool
 among ws None = false
 among ws (Some x) = any_accepts ws x

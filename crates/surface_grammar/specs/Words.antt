@@ -1,5 +1,5 @@
 -- Which tokens stand for a word of the grammar.
-use Rattle.std.specs.Prelude.{ℕ, Bool, true, false, ◌||◌, ◌&&◌, ◌==◌}
+use Rattle.std.specs.Prelude.{ℕ, Bool, true, false, ◌||◌, ◌&&◌, ◌==◌, List, [], ◌∷◌}
 use Rattle.surface_tree.specs.declared.kind.Kind.{Kind}
 use Rattle.surface_tree.specs.declared.kind.Kind.TheVariants as k
 
@@ -129,3 +129,8 @@ is_upper_word _ = false
 abbrev pub accept : Kind → Kind → Bool
 accept word found =
     (kind_code word == kind_code found) || ((kind_code word == kind_code k.UpperName) && is_upper_word found)
+
+-- one of the words takes the token
+abbrev pub any_accepts : List Kind → Kind → Bool
+any_accepts [] x = false
+any_accepts (w ∷ ws) x = accept w x || any_accepts ws x

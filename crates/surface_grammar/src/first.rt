@@ -1,6 +1,7 @@
 //! The rules of each form, and the words that begin it.
 ghost use Rattle.std.specs.Prelude.{◌≡◌};
-ghost use Rattle.surface_grammar.specs.Forms.{first_of, rules_of};
+ghost use Rattle.surface_grammar.specs.Firsts.{first_of};
+ghost use Rattle.surface_grammar.specs.Forms.{rules_of};
 ghost use Rattle.surface_grammar.specs.Trees.{begins};
 
 use crate::table::{rules, word_kind, words};
@@ -187,6 +188,7 @@ impl Form {
 
     /// The words that begin a tree of the form. Those are what its rules give, and stand here so that they needn't be
     /// found again for each token.
+    #[tactic(auto, unfolding(crate::specs::Firsts::first_of))]
     fn first(self) -> &'static [Kind]
         ensures { result.now ≡ first_of self }
     {

@@ -1,7 +1,6 @@
 //! Which tokens stand for a word of the grammar.
 ghost use Rattle.std.specs.Prelude.{◌≡◌, ◌==◌};
-ghost use Rattle.surface_grammar.specs.Trees.{any_accepts};
-ghost use Rattle.surface_grammar.specs.Words.{accept, is_upper_word, kind_code};
+ghost use Rattle.surface_grammar.specs.Words.{accept, any_accepts, is_upper_word, kind_code};
 
 use surface_tree::Kind;
 

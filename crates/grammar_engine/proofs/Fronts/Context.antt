@@ -11,17 +11,18 @@ use Rattle.surface_grammar.specs.declared.form.Form.TheVariants as f
 use Rattle.surface_grammar.specs.declared.part.Part.{Part}
 use Rattle.surface_grammar.specs.declared.part.Part.TheVariants.{Word, One, Many, Maybe}
 use Rattle.surface_grammar.specs.declared.rule.Rule.{Rule}
-use Rattle.surface_grammar.specs.Forms.{rules_of, first_of}
+use Rattle.surface_grammar.specs.Firsts.{first_of}
+use Rattle.surface_grammar.specs.Forms.{rules_of}
 use Rattle.surface_grammar.specs.Fronts.{first_kind}
 use Rattle.surface_grammar.specs.Table.{body_of}
-use Rattle.surface_grammar.specs.Trees.{Node, leaf, branch, several, absent, present, Nodes, none, more, spell, spell_all, front, any_accepts, begins, IsIn, Fits, FitsAll, FitsEach}
-use Rattle.surface_grammar.specs.Words.{kind_code, accept}
+use Rattle.surface_grammar.specs.Trees.{Node, leaf, branch, several, absent, present, Nodes, none, more, spell, spell_all, front, begins, IsIn, Fits, FitsAll, FitsEach}
+use Rattle.surface_grammar.specs.Words.{kind_code, accept, any_accepts}
 use Rattle.grammar_engine.proofs.Short.Calm.{not_true}
 use Rattle.grammar_engine.proofs.Trees.Leading.{node_led}
 use Rattle.grammar_engine.proofs.Fronts.Scan.{Turn, up, down, flat, turn_of, outside, after_token, scan}
 use Rattle.grammar_engine.proofs.Fronts.Scanned.{accepted}
 use Rattle.grammar_engine.proofs.Fronts.Skimmed.{exact}
-use Rattle.surface_grammar.proofs.Every.{of_each}
+use Rattle.surface_grammar.proofs.Listed.{of_each_by}
 use Rattle.grammar_engine.proofs.Bools.{and_left, and_right, every, every_in, unless, or_split, clash}
 
 -- a tree of the form may end with an expression, with a constructor
@@ -76,39 +77,56 @@ ends_turn flat o = not o
 abbrev pub ends_at : Kind → Bool
 ends_at x = ends_turn (turn_of x) (outside x true)
 
+-- the scan stops at what begins the parts, where these words begin each form
+abbrev ends_by : (Form → List Kind) → Bool → List Part → Bool
+ends_by first e [] = e
+ends_by first e (Word w ∷ ps) = ends_at w
+ends_by first e (One g ∷ ps) = every ends_at (first g)
+ends_by first e (Many g ∷ ps) = every ends_at (first g) && ends_by first e ps
+ends_by first e (Maybe g ∷ ps) = every ends_at (first g) && ends_by first e ps
+
 abbrev pub ends_next : Bool → List Part → Bool
-ends_next e [] = e
-ends_next e (Word w ∷ ps) = ends_at w
-ends_next e (One g ∷ ps) = every ends_at (first_of g)
-ends_next e (Many g ∷ ps) = every ends_at (first_of g) && ends_next e ps
-ends_next e (Maybe g ∷ ps) = every ends_at (first_of g) && ends_next e ps
+ends_next e ps = ends_by first_of e ps
+
+-- no `::` begins the parts but one behind a constructor in brackets, where these words begin each form
+abbrev colon_by : (Form → List Kind) → Bool → List Part → Bool
+colon_by first c [] = c
+colon_by first c (Word w ∷ ps) = not (accept w k.DoubleColon)
+colon_by first c (One g ∷ ps) = is_paren_end g || not (any_accepts (first g) k.DoubleColon)
+colon_by first c (Many g ∷ ps) = not (any_accepts (first g) k.DoubleColon) && colon_by first c ps
+colon_by first c (Maybe g ∷ ps) = not (any_accepts (first g) k.DoubleColon) && colon_by first c ps
 
 abbrev pub colon_next : Bool → List Part → Bool
-colon_next c [] = c
-colon_next c (Word w ∷ ps) = not (accept w k.DoubleColon)
-colon_next c (One g ∷ ps) = is_paren_end g || not (begins g (Some k.DoubleColon))
-colon_next c (Many g ∷ ps) = not (begins g (Some k.DoubleColon)) && colon_next c ps
-colon_next c (Maybe g ∷ ps) = not (begins g (Some k.DoubleColon)) && colon_next c ps
+colon_next c ps = colon_by first_of c ps
+
+abbrev ok_by : (Form → List Kind) → Bool → Bool → Part → List Part → Bool
+ok_by first e c (Word w) ps = true
+ok_by first e c (One g) ps = (not (is_exp_tail g) || ends_by first e ps) && (not (is_con_tail g) || colon_by first c ps)
+ok_by first e c (Many g) ps =
+    (not (is_exp_tail g) || (every ends_at (first g) && ends_by first e ps))
+    && (not (is_con_tail g) || (not (any_accepts (first g) k.DoubleColon) && colon_by first c ps))
+ok_by first e c (Maybe g) ps =
+    (not (is_exp_tail g) || ends_by first e ps) && (not (is_con_tail g) || colon_by first c ps)
 
 abbrev pub part_ok : Bool → Bool → Part → List Part → Bool
-part_ok e c (Word w) ps = true
-part_ok e c (One g) ps = (not (is_exp_tail g) || ends_next e ps) && (not (is_con_tail g) || colon_next c ps)
-part_ok e c (Many g) ps = (not (is_exp_tail g) || (every ends_at (first_of g) && ends_next e ps)) && (not (is_con_tail g) || (not (begins g (Some k.DoubleColon)) && colon_next c ps))
-part_ok e c (Maybe g) ps = (not (is_exp_tail g) || ends_next e ps) && (not (is_con_tail g) || colon_next c ps)
+part_ok e c p ps = ok_by first_of e c p ps
+
+abbrev tidy_by : (Form → List Kind) → Bool → Bool → List Part → Bool
+tidy_by first e c [] = true
+tidy_by first e c (p ∷ ps) = ok_by first e c p ps && tidy_by first e c ps
 
 abbrev pub tidy : Bool → Bool → List Part → Bool
-tidy e c [] = true
-tidy e c (p ∷ ps) = part_ok e c p ps && tidy e c ps
+tidy e c ps = tidy_by first_of e c ps
 
-abbrev is_tidy : Form → Rule → Bool
-is_tidy g q = tidy (is_exp_tail g) (is_con_tail g) (body_of q)
+abbrev is_tidy : (Form → List Kind) → Form → Rule → Bool
+is_tidy first g q = tidy_by first (is_exp_tail g) (is_con_tail g) (body_of q)
 
 -- computed
-all_tidy : (g : Form) → every (is_tidy g) (rules_of g) ≡ true
-all_tidy g = of_each (λ (g : Form). every (is_tidy g) (rules_of g)) refl g
+all_tidy : (g : Form) → every (is_tidy first_of g) (rules_of g) ≡ true
+all_tidy g = of_each_by (λ first g. every (is_tidy first g) (rules_of g)) refl g
 
 pub rule_tidy : (g : Form) (q : Rule) → IsIn q (rules_of g) → tidy (is_exp_tail g) (is_con_tail g) (body_of q) ≡ true
-rule_tidy g q i = every_in (is_tidy g) (rules_of g) q (all_tidy g) i
+rule_tidy g q i = every_in (is_tidy first_of g) (rules_of g) q (all_tidy g) i
 
 -- `::`, a kind and `)` stand here
 pub record MarkedText (text : List Token) : Type 0 where

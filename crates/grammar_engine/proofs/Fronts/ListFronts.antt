@@ -10,6 +10,7 @@ use Rattle.surface_grammar.specs.declared.form.Form.TheVariants as f
 use Rattle.surface_grammar.specs.declared.part.Part.{Part}
 use Rattle.surface_grammar.specs.declared.part.Part.TheVariants.{Word, One, Many, Maybe}
 use Rattle.surface_grammar.specs.declared.rule.Rule.{Rule}
+use Rattle.surface_grammar.specs.Firsts.{first_of}
 use Rattle.surface_grammar.specs.Forms.{rules_of}
 use Rattle.surface_grammar.specs.Fronts.{first_kind}
 use Rattle.surface_grammar.specs.Table.{body_of}
@@ -106,6 +107,11 @@ right_is : (x : Kind) → is_right x ≡ true → x ≡ k.RightBracket
 right_is k.RightBracket h = refl
 right_is x h = cc
 
+-- no expression begins with `]`
+not_right : {A : Type 0} → begins f.Exp (Some k.RightBracket) ≡ true → A
+unfolding first_of
+not_right h = cc
+
 splice_rule : {A : Type 0} (q : Rule) (ms ns : Nodes) (room space : ℕ) (name other : Content) (x y : Option Kind) (after behind : List Token) → IsIn q (rules_of f.Splice) → FitsAll room name ms (body_of q) x
     → FitsAll space other ns (One f.Exp ∷ Word k.RightBrace ∷ []) y → spell_all ms ++ after ≡ spell_all ns ++ behind → A
 splice_rule q ms ns room space name other x y after behind (inl e) fit fits is =
@@ -120,8 +126,7 @@ splice_rule q ms ns room space name other x y after behind (inl e) fit fits is =
     let found : lists (spell d.head ++ (spell_all d.tail ++ behind)) ≡ true = gather Listed list_step d.head f.Exp space other (front (spell_all d.tail) y) d.fits refl (spell_all d.tail ++ behind) in
     let here : lists (l.token ∷ (m.token ∷ ((m.rest ++ spell_all b.tail) ++ after))) ≡ true = ap lists (sym text ∙ is ∙ ap (λ z. z ++ behind) d.spelled ∙ append_assoc (spell d.head) (spell_all d.tail) behind) ∙ found in
     let right : is_right m.token.kind ≡ true = sym (ap (λ z. lists_at z (is_right m.token.kind)) opens) ∙ here in
-    let wrong : begins f.Exp (Some k.RightBracket) ≡ true = ap (λ z. begins f.Exp (Some z)) (sym (right_is m.token.kind right)) ∙ m.passes in
-    cc
+    not_right (ap (λ z. begins f.Exp (Some z)) (sym (right_is m.token.kind right)) ∙ m.passes)
 splice_rule q ms ns room space name other x y after behind (inr e) fit fits is = absurd e
 
 splice_node : {A : Type 0} (n : Node) (ns : Nodes) (room space : ℕ) (name other : Content) (x y : Option Kind) (after behind : List Token) → Fits room name n (One f.Splice) x
@@ -174,7 +179,7 @@ splice_front q ns room name x text (inl e) fit =
     }
   where
     not_begun : (y : Kind) → begins f.Exp (Some y) ≡ true → Some y ≡ Some k.RightBracket → ⊥
-    not_begun y h e = let wrong : begins f.Exp (Some k.RightBracket) ≡ true = ap (begins f.Exp) (sym e) ∙ h in cc
+    not_begun y h e = not_right (ap (begins f.Exp) (sym e) ∙ h)
 splice_front q ns room name x text (inr e) fit = absurd e
 
 splice_front_node : (n : Node) (room : ℕ) (name : Content) (x : Option Kind) (text : List Token) → Fits room name n (One f.Splice) x → SpliceFront (spell n ++ text)

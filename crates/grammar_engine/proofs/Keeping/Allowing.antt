@@ -14,6 +14,7 @@ use Rattle.surface_grammar.specs.declared.part.Part.{Part}
 use Rattle.surface_grammar.specs.declared.part.Part.TheVariants.{Word, One, Many, Maybe}
 use Rattle.surface_grammar.specs.declared.rule.Rule.TheVariants as r
 use Rattle.surface_grammar.specs.declared.tree.Mark.{Mark}
+use Rattle.surface_grammar.specs.Firsts.{first_of}
 use Rattle.surface_grammar.specs.Fronts.{first_kind}
 use Rattle.surface_grammar.specs.Trees.{Node, leaf, branch, several, absent, Nodes, none, more, spell, spell_all, front, among, must_go_on, Fits}
 use Rattle.surface_grammar.specs.Words.{accept}
@@ -201,6 +202,11 @@ token_at (t ∷ ts) (suc i) y e =
     let d = token_at ts i y e in
     record { token = d.token; is = d.is; kind = d.kind; within = omega (arith, d.within) }
 
+-- the open option may be left out before `::`
+left_open : must_go_on f.ConForall (Some k.DoubleColon) ≡ false
+unfolding first_of
+left_open = refl
+
 -- a kind that comes up to the place ends a constructor in brackets
 pub kind_allowed : (items : List Token) (p : Part) (at room here place space tag : ℕ) (ws : List Want) (leaves : List Token) (marks : List Mark)
     → Grows items p at room (drop here items) (record { part = Maybe f.ConForall; room = space; tag = tag } ∷ ws) leaves marks → drop at items ≡ leaves ++ drop here items
@@ -219,7 +225,7 @@ kind_allowed items p at room here place space tag ws leaves marks grows read rea
     let mark_fits : (y : Option Kind) → Fits w.room name mark (One f.ConParenEnd) y = λ y. (w.room, name, record { rule = inr (inl refl); room_left = add_zero w.room; named = λ i. refl; free = among_none (Some t.kind) }, ((colons, λ i. no_tag i), (node_fits, ((refl, λ i. no_tag i), tt)))) in
     let quiet = ready.quiet x ok in
     let made = marked items mark w ws x m.solid m.part mark_fits (λ y. ap Some d.kind) (and_right (every (behind (Maybe f.ConForall)) (nexts (parts_of ws) (x ∷ []))) _ quiet) ready.roomy in
-    let gone : must_go_on f.ConForall (front (spell_all (fill_mark items mark ws)) x) ≡ false = subst (λ y. must_go_on f.ConForall y ≡ false) (sym made.lead) refl in
+    let gone : must_go_on f.ConForall (front (spell_all (fill_mark items mark ws)) x) ≡ false = subst (λ y. must_go_on f.ConForall y ≡ false) (sym made.lead) left_open in
     grown_begins items p at room here place (record { part = Maybe f.ConForall; room = space; tag = tag } ∷ ws) leaves marks x (more absent (fill_mark items mark ws)) (t ∷ kind.front) (kind.after ++ (close ∷ made.rest))
     grows read come kind.within (gone, made.fits)
     (made.spelled ∙ ap (λ l. t ∷ ((l ++ close ∷ []) ++ made.rest)) kind.spelled ∙ ap (λ l. t ∷ l) (assoc_three kind.front kind.after close made.rest)) (d.is ∙ ap (λ l. t ∷ l) kind.read)

@@ -10,7 +10,8 @@ use Rattle.surface_grammar.specs.declared.form.Form.TheVariants as f
 use Rattle.surface_grammar.specs.declared.part.Part.{Part}
 use Rattle.surface_grammar.specs.declared.part.Part.TheVariants.{Word, One, Many, Maybe}
 use Rattle.surface_grammar.specs.declared.rule.Rule.{Rule}
-use Rattle.surface_grammar.specs.Forms.{rules_of, first_of}
+use Rattle.surface_grammar.specs.Firsts.{first_of}
+use Rattle.surface_grammar.specs.Forms.{rules_of}
 use Rattle.surface_grammar.specs.Fronts.{first_kind}
 use Rattle.surface_grammar.specs.Table.{body_of}
 use Rattle.surface_grammar.specs.Trees.{Node, leaf, branch, several, absent, present, Nodes, none, more, spell, spell_all, front, begins, depth_of, IsIn, Fits, FitsAll}
@@ -150,11 +151,12 @@ trails_meets e items (Maybe g) room tag a c s h =
     trails_goes s.taken e g room tag [] a c s.by (and_both (part_ok e true (One g) (parts_of a.wants)) (tidy e true (parts_of a.wants)) ok rest) rest
 
 -- no repetition of the open option is tidy
+forall_untidy : (e : Bool) (ps : List Part) → tidy e true (Many f.ConForall ∷ ps) ≡ true → ⊥
+unfolding first_of
+forall_untidy e ps k = cc
+
 pub never_open : (e : Bool) (g : Form) (room tag : ℕ) (ws : List Want) → Trails e (want (Many g) room tag ∷ ws) → g ≡ f.ConForall → ⊥
-never_open e g room tag ws h i = wrong (parts_of ws) (subst (λ z. tidy e true (Many z ∷ parts_of ws) ≡ true) i h)
-  where
-    wrong : (ps : List Part) → tidy e true (Many f.ConForall ∷ ps) ≡ true → ⊥
-    wrong ps k = cc
+never_open e g room tag ws h i = forall_untidy e (parts_of ws) (subst (λ z. tidy e true (Many z ∷ parts_of ws) ≡ true) i h)
 
 -- the scan stops at what the parts begin with
 trail_ends : (extra : ℕ) (items : List Token) (ns : Nodes) (ws : List Want) (e : Bool) (tail : List Token) → FilledBy extra items ns ws (first_kind tail) → ends_next e (parts_of ws) ≡ true → Ends e tail → scan 0 (spell_all ns ++ tail) ≡ false

@@ -11,11 +11,12 @@ use Rattle.surface_grammar.specs.declared.part.Part.{Part}
 use Rattle.surface_grammar.specs.declared.part.Part.TheVariants.{Word, One, Many, Maybe}
 use Rattle.surface_grammar.specs.declared.rule.Rule.{Rule}
 use Rattle.surface_grammar.specs.declared.rule.Rule.TheVariants as r
+use Rattle.surface_grammar.specs.Firsts.{first_of}
 use Rattle.surface_grammar.specs.Forms.{rules_of}
 use Rattle.surface_grammar.specs.Sides.{bars_of}
 use Rattle.surface_grammar.specs.Table.{body_of}
-use Rattle.surface_grammar.specs.Trees.{Node, leaf, branch, several, absent, Nodes, none, more, any_accepts, must_go_on, depth_of}
-use Rattle.surface_grammar.specs.Words.{kind_code}
+use Rattle.surface_grammar.specs.Trees.{Node, leaf, branch, several, absent, Nodes, none, more, among, is_open, depth_of}
+use Rattle.surface_grammar.specs.Words.{kind_code, any_accepts}
 use Rattle.grammar_engine.specs.declared.want.Want.{Want}
 use Rattle.grammar_engine.specs.Places.{name_at}
 use Rattle.grammar_engine.specs.Rooms.{least_of}
@@ -48,16 +49,22 @@ abbrev pub follows : Form → Option Kind → Bool
 follows g None = true
 follows g (Some x) = holds x (follow_of g)
 
--- a part that is filled by a short tree may have the token behind it
+-- a part that is filled by a short tree may have the token behind it, where these words begin each form
+abbrev pub behind_by : (Form → List Kind) → Part → Option Kind → Bool
+behind_by first (Word w) y = true
+behind_by first (One g) y = follows g y
+behind_by first (Many g) y = follows g y && not (among (first g) y && not (is_open g y))
+behind_by first (Maybe g) y = follows g y && not (among (first g) y && not (is_open g y))
+
 abbrev pub behind : Part → Option Kind → Bool
-behind (Word w) y = true
-behind (One g) y = follows g y
-behind (Many g) y = follows g y && not (must_go_on g y)
-behind (Maybe g) y = follows g y && not (must_go_on g y)
+behind p y = behind_by first_of p y
+
+abbrev pub calm_by : (Form → List Kind) → List Part → List (Option Kind) → Bool
+calm_by first [] ys = true
+calm_by first (p ∷ ps) ys = every (behind_by first p) (nexts ps ys) && calm_by first ps ys
 
 abbrev pub calm : List Part → List (Option Kind) → Bool
-calm [] ys = true
-calm (p ∷ ps) ys = every (behind p) (nexts ps ys) && calm ps ys
+calm ps ys = calm_by first_of ps ys
 
 abbrev pub all_follow : Form → List (Option Kind)
 all_follow g = None ∷ map Some (follow_of g)
@@ -101,16 +108,22 @@ leading (Many g ∷ ps) = leading ps
 leading (Maybe g ∷ ps) = leading ps
 
 -- the laws of the table of short trees
+abbrev pub calm_rule_by : (Form → List Kind) → Form → Rule → Bool
+calm_rule_by first g q = calm_by first (body_of q) (all_follow g) && tail_rooms (least_of q - depth_of q) (body_of q)
+
 abbrev pub is_calm_rule : Form → Rule → Bool
-is_calm_rule g q = calm (body_of q) (all_follow g) && tail_rooms (least_of q - depth_of q) (body_of q)
+is_calm_rule g q = calm_rule_by first_of g q
 
 abbrev pub is_short : Form → Bool
 is_short g =
     nat_lt (pick_of g) (length (rules_of g)) && (nat_le (depth_of (picked g)) (need_of g) && (rooms (need_of g - depth_of (picked g)) (body_of (picked g))
     && (not (any_accepts (bars_of (picked g)) (start_of g)) && enough 24 g)))
 
+abbrev pub sound_by : (Form → List Kind) → Form → Bool
+sound_by first g = every (calm_rule_by first g) (rules_of g) && is_short g
+
 abbrev pub is_sound : Form → Bool
-is_sound g = every (is_calm_rule g) (rules_of g) && is_short g
+is_sound g = sound_by first_of g
 
 abbrev pub fill_part : (Form → Node) → Content → Part → Node
 fill_part make name (Word w) = leaf (record { kind = w; at = 0; content = name })

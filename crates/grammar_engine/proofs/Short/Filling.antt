@@ -12,8 +12,8 @@ use Rattle.surface_grammar.specs.declared.rule.Rule.TheVariants as r
 use Rattle.surface_grammar.specs.Forms.{rules_of}
 use Rattle.surface_grammar.specs.Sides.{bars_of}
 use Rattle.surface_grammar.specs.Table.{body_of}
-use Rattle.surface_grammar.specs.Trees.{Node, spell, spell_all, front, among, any_accepts, must_go_on, depth_of, IsIn, Fits, FitsAll}
-use Rattle.surface_grammar.specs.Words.{kind_code, accept}
+use Rattle.surface_grammar.specs.Trees.{Node, spell, spell_all, front, among, must_go_on, depth_of, IsIn, Fits, FitsAll}
+use Rattle.surface_grammar.specs.Words.{kind_code, accept, any_accepts}
 use Rattle.grammar_engine.specs.declared.want.Want.{Want}
 use Rattle.grammar_engine.specs.Places.{name_at}
 use Rattle.grammar_engine.specs.Rooms.{least_of}

@@ -6,6 +6,7 @@ use Rattle.surface_tree.specs.declared.kind.Kind.TheVariants as k
 use Rattle.surface_grammar.specs.declared.form.Form.{Form}
 use Rattle.surface_grammar.specs.declared.form.Form.TheVariants as f
 use Rattle.surface_grammar.specs.declared.rule.Rule.{Rule}
+use Rattle.surface_grammar.specs.Firsts.{first_of}
 use Rattle.surface_grammar.specs.Forms.{rules_of}
 use Rattle.surface_grammar.specs.Leads.{starts}
 use Rattle.surface_grammar.specs.Table.{body_of}
@@ -13,7 +14,9 @@ use Rattle.surface_grammar.specs.Trees.{IsIn, begins}
 use Rattle.surface_grammar.specs.Words.{kind_code}
 use Rattle.grammar_engine.specs.Laws.{is_raced_form, starts_none, starts_single, one_token_decides, solid, all_solid, every_kind}
 use Rattle.surface_grammar.proofs.Every.{of_each}
+use Rattle.surface_grammar.proofs.Listed.{of_each_by}
 use Rattle.grammar_engine.proofs.Bools.{and_left, and_right, less}
+use Rattle.grammar_engine.proofs.Table.ByWords.{decides_by}
 
 abbrev pub kinds : List Kind
 kinds =
@@ -48,14 +51,14 @@ every_at p (x ∷ xs) zero d h lt = and_left (p x) (every_kind p xs) h
 every_at p (x ∷ xs) (suc i) d h lt = every_at p xs i d (and_right (p x) (every_kind p xs) h) (omega arith)
 
 -- computed
-decided : (g : Form) → every_kind (one_token_decides g) kinds ≡ true
-decided g = of_each (λ (g : Form). every_kind (one_token_decides g) kinds) refl g
+decided : (g : Form) → every_kind (decides_by first_of g) kinds ≡ true
+decided g = of_each_by (λ first g. every_kind (decides_by first g) kinds) refl g
 
 all_solid_of : (g : Form) → all_solid (rules_of g) ≡ true
 all_solid_of g = of_each (λ (g : Form). all_solid (rules_of g)) refl g
 
 pub decides : (g : Form) (x : Kind) → one_token_decides g x ≡ true
-decides g x = subst (λ y. one_token_decides g y ≡ true) (found x) (every_at (one_token_decides g) kinds (kind_code x) k.KeywordAnd (decided g) (less (kind_code x) (length kinds) (low x)))
+decides g x = subst (λ y. decides_by first_of g y ≡ true) (found x) (every_at (decides_by first_of g) kinds (kind_code x) k.KeywordAnd (decided g) (less (kind_code x) (length kinds) (low x)))
 
 solid_in : (qs : List Rule) (q : Rule) → all_solid qs ≡ true → IsIn q qs → solid (body_of q) ≡ true
 solid_in [] q h i = absurd i

@@ -10,7 +10,8 @@ use Rattle.surface_grammar.specs.declared.rule.Rule.{Rule}
 use Rattle.surface_grammar.specs.Leads.{leads, starts}
 use Rattle.surface_grammar.specs.Sides.{bars_of}
 use Rattle.surface_grammar.specs.Table.{body_of}
-use Rattle.surface_grammar.specs.Trees.{Node, leaf, branch, several, absent, present, Nodes, none, more, spell, spell_all, front, among, any_accepts, begins, Fits, FitsAll}
+use Rattle.surface_grammar.specs.Trees.{Node, leaf, branch, several, absent, present, Nodes, none, more, spell, spell_all, front, among, begins, Fits, FitsAll}
+use Rattle.surface_grammar.specs.Words.{any_accepts}
 use Rattle.grammar_engine.specs.Laws.{solid}
 use Rattle.grammar_engine.proofs.Table.Decided.{rule_solid, starts_begins}
 use Rattle.grammar_engine.proofs.Bools.{or_first}

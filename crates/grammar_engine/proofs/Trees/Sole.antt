@@ -9,6 +9,7 @@ use Rattle.surface_grammar.specs.declared.form.Form.TheVariants as f
 use Rattle.surface_grammar.specs.declared.part.Part.{Part}
 use Rattle.surface_grammar.specs.declared.part.Part.TheVariants.{Word, One, Many, Maybe}
 use Rattle.surface_grammar.specs.declared.rule.Rule.{Rule}
+use Rattle.surface_grammar.specs.Firsts.{first_of}
 use Rattle.surface_grammar.specs.Forms.{rules_of}
 use Rattle.surface_grammar.specs.Fronts.{first_kind}
 use Rattle.surface_grammar.specs.Leads.{starts}
@@ -45,6 +46,7 @@ or_first true h = refl
 or_first false h = h
 
 pub arrow : (x : Kind) → begins f.ExpBindRest (Some x) ≡ true → x ≡ k.LeftArrow
+unfolding first_of
 arrow x h = exact k.LeftArrow x refl (or_first (accept k.LeftArrow x) h)
 
 -- a binding is no other expression, where the scan stops at what follows
@@ -130,11 +132,12 @@ open_is f.ConForall None h = cc
 open_is f.ConForall (Some x) h = cc
 open_is g x h = cc
 
+many_forall : {A : Type 0} (e c : Bool) (ps : List Part) → part_ok e c (Many f.ConForall) ps ≡ true → A
+unfolding first_of
+many_forall e c ps h = cc
+
 pub not_many : {A : Type 0} (e c : Bool) (ps : List Part) (g : Form) → g ≡ f.ConForall → part_ok e c (Many g) ps ≡ true → A
-not_many e c ps g i h = wrong (subst (λ z. part_ok e c (Many z) ps ≡ true) i h)
-  where
-    wrong : {A : Type 0} → part_ok e c (Many f.ConForall) ps ≡ true → A
-    wrong h = cc
+not_many e c ps g i h = many_forall e c ps (subst (λ z. part_ok e c (Many z) ps ≡ true) i h)
 
 -- the open option is there, or a kind and `)` follow: not both
 pub forall_rule : {A : Type 0} (q : Rule) (ns : Nodes) (room : ℕ) (name : Content) (after behind : List Token) → IsIn q (rules_of f.ConForall) → FitsAll room name ns (body_of q) (first_kind after) → spell_all ns ++ after ≡ behind → first_kind behind ≡ Some k.DoubleColon → MarkedText behind → A

@@ -4,12 +4,14 @@ use Rattle.surface_grammar.specs.declared.form.Form.{Form}
 use Rattle.surface_grammar.specs.declared.form.Form.TheVariants as f
 use Rattle.surface_grammar.specs.declared.part.Part.{Part}
 use Rattle.surface_grammar.specs.declared.part.Part.TheVariants.{Word, One, Many, Maybe}
+use Rattle.surface_grammar.specs.Firsts.{first_of}
 use Rattle.grammar_engine.specs.Single.{is_text_part}
 use Rattle.grammar_engine.proofs.Bools.{both_open}
 use Rattle.grammar_engine.proofs.Fronts.Context.{part_ok, is_exp_tail, is_con_tail}
 
 -- the last line stands for each other form, and is checked for each
 many_whole : (g : Form) → is_text_part (Many g) ≡ true → part_ok true true (Many g) [] ≡ true
+unfolding first_of
 many_whole f.ConForall h = cc
 many_whole f.Exp h = cc
 many_whole f.ExpBindRest h = cc

@@ -1,4 +1,4 @@
-use Rattle.std.proofs.Common.{◌≡◌, ◌<◌, ◌+◌, ◌-◌, suc, arith, drop, max, refl, rules, subst, sym}
+use Rattle.std.proofs.Common.{◌≡◌, ◌<◌, ◌+◌, ◌-◌, ◌∙◌, suc, ap, arith, drop, false, max, refl, rules, subst, sym, true}
 use Rattle.std.proofs.lemmas.Result.{IfErr-weaker, IfOk-weaker, err_from_is_err_and}
 use Rattle.std.proofs.Math.Logic.{inr}
 use Rattle.grammar_engine.proofs.Keeping.Grown.{Grows}
@@ -6,6 +6,7 @@ use Rattle.grammar_engine.proofs.Keeping.Grows.{begun_grows, begun_read, grows_m
 use Rattle.surface_tree.specs.declared.kind.Kind.TheVariants as k
 use Rattle.surface_grammar.specs.declared.form.Form.TheVariants as f
 use Rattle.surface_grammar.specs.declared.part.Part.TheVariants.{One}
+use Rattle.surface_grammar.specs.Trees.{is_open}
 use Rattle.std.specs.Result.{IfErr}
 use Rattle.grammar_engine.specs.Allowed.{StopsAllowed}
 use Rattle.grammar_engine.specs.Blocks.{Cramped}
@@ -16,7 +17,9 @@ use Rattle.grammar_engine.proofs.Keeping.Going.{Going, going_start, going_meets,
 use Rattle.grammar_engine.proofs.Keeping.Readies.{begun_ready, ready_meets, ends_allowed, refusal_allowed, stuck_at}
 use Rattle.grammar_engine.proofs.Keeping.Smaller.{left_over, smaller}
 use Rattle.grammar_engine.proofs.Keeping.Ways.{cramped_blocked, next_place, room_same, shut_moved, shut_behind, shut_refused, shut_unbegun}
+use Rattle.grammar_engine.proofs.Bools.{clash}
 use Rattle.grammar_engine.proofs.read.+read.Goals as goal
+use Rattle.grammar_engine.proofs.read.+read.Goals.{goes_on-in_default-via-in-ConForall+in-Some+in_default, goes_on-in_default-via-in-ConForall+in_default, goes_on-in_default-via-in_default}
 
 pub read_part-loop-want-init : goal.read_part-loop-want-init
 read_part-loop-want-init t c = record {
@@ -124,6 +127,17 @@ is_kind_mark-returns-in-Some-One-clause-other t c =
     (λ mark h no one w solid is.
     shut_moved c.args.tokens.now.items f.KindTerm k.RightParenthesis (c.args.machine.now.at + 1) (suc c.args.machine.now.at) c.in-Some-One.field-0.room w.room (c.args.races - 1) c.try_way.new.machine.far (next_place c.args.machine.now.at)
     (room_same c.in-Some-One.field-0 w c.first_solid.result c.in-Some-One.field-0.room c.in-Some-One.is (search (rules, c.first_solid.ensures, solid)) refl) (h no (omega (arith, one)))) c.try_way.ensures.shut
+
+-- the form isn't the open one, or the token isn't `::`
+pub goes_on-returns-in_default-clause-sure : goal.goes_on-returns-in_default-clause-sure
+goes_on-returns-in_default-clause-sure t c = λ opens one.
+    let shut : is_open c.args.form c.kind_at-next.result ≡ false =
+    elim c.in_default.branch [
+      | goes_on-in_default-via-in-ConForall+in-Some+in_default w ↦ first_of (search rules, search (rules, w), grind (arith, w))
+      | goes_on-in_default-via-in-ConForall+in_default w ↦ first_of (search rules, search (rules, w), grind (arith, w))
+      | goes_on-in_default-via-in_default w ↦ first_of (search rules, search (rules, w), grind (arith, w))
+    ] in
+    clash (is_open c.args.form c.kind_at-next.result) (ap (is_open c.args.form) c.kind_at-next.ensures ∙ opens) shut
 
 pub try_way-returns-then-not-begins-clause-shut : goal.try_way-returns-then-not-begins-clause-shut
 try_way-returns-then-not-begins-clause-shut t c = λ no low. shut_unbegun c.args.tokens.now.items c.args.way.form c.args.way.behind c.args.way.start c.args.room (c.args.races - 1) c.max-machine.result (search (rules, c.if-not-begins.true, c.begins.ensures, c.kind_at.ensures)) (search (arith, c.max-machine.ensures))

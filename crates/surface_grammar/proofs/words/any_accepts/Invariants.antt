@@ -1,5 +1,5 @@
 use Rattle.std.proofs.Common.{◌≡◌, drop}
-use Rattle.surface_grammar.specs.Trees.{any_accepts}
+use Rattle.surface_grammar.specs.Words.{any_accepts}
 use Rattle.surface_grammar.proofs.words.any_accepts.Given as goal
 
 abbrev pub invariant-loop-word : goal.invariant-loop-word
