@@ -58,7 +58,8 @@ pub data HasNoTree (part : Part) (name bytes : List ℕ) (fault : SourceFault) :
 
 -- The text of a module has one tree at most, isn't refused where it has one, and is refused for one reason.
 pub record ModulesHaveOneAnswer : Type 0 where
-  pub one_tree : (bytes : List ℕ) (node other : Node) → IsModuleTree bytes node → IsModuleTree bytes other → node ≡ other
+  pub one_tree : (bytes : List ℕ) (node other : Node) → IsModuleTree bytes node → IsModuleTree bytes other
+      → node ≡ other
   pub not_refused : (name bytes : List ℕ) (node : Node) (fault : SourceFault) → IsModuleTree bytes node
       → HasNoTree module_part name bytes fault → ⊥
   pub one_refusal : (name bytes : List ℕ) (fault other : SourceFault) → HasNoTree module_part name bytes fault

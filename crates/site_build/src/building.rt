@@ -120,8 +120,8 @@ fn many_tables_alone(alloc: Global) -> Result<BuildFault, AllocError>
     Ok(BuildFault::Source(SourceFault::BadProject { file, line: 0 }))
 }
 
-/// Builds a module alone, as file `Main.ur`. The program that it gives is accepted, and is what the module says; a fault
-/// has its cause in it.
+/// Builds a module alone, as file `Main.ur`. The program that it gives is accepted, and is what the module says; a
+/// fault has its cause in it.
 pub fn build_text<T: Terms + Drop>(
     alloc: Global,
     terms: &T,
