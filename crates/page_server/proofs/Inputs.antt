@@ -108,5 +108,4 @@ front before left old new v u p q same w = front_read before left old new v p q 
 -- a project isn't built, and the line that says why was written
 pub unbuilt : (told : Option Told) (dir : List ℕ) (old new : Option (List ℕ)) (fault : BuildFault) → IfSome told (λ files. IsCauseIn files dir [] fault)
     → ((line : List ℕ) × (line_of_build fault ≡ Some line) × Appends old new line) → UnbuiltIsWritten told dir old new
-unbuilt None dir old new fault h w = tt
-unbuilt (Some files) dir old new fault h (line, is, grew) = (fault, h, line, is, grew)
+unbuilt told dir old new fault h (line, is, grew) = (fault, line, is, grew, h)

@@ -56,11 +56,12 @@ abbrev pub FrontIsWritten : Option (List ℕ) → Option (List ℕ) → Option (
 FrontIsWritten before old new = IfSome before (λ input. (answer : List ℕ) × IsAnswer input answer
     × AppendsFront old new answer)
 
--- The project in a folder isn't built, and the output grew by the line that says why.
+-- The project in a folder isn't built, and the output grew by the line that says why. Where the files are told, that has
+-- its cause in them.
 abbrev pub UnbuiltIsWritten : Option Told → List ℕ → Option (List ℕ) → Option (List ℕ) → Type 0
 UnbuiltIsWritten told dir old new =
-    IfSome told (λ files. (fault : BuildFault) × IsCauseIn files dir [] fault
-    × (line : List ℕ) × (line_of_build fault ≡ Some line) × Appends old new line)
+    (fault : BuildFault) × (line : List ℕ) × (line_of_build fault ≡ Some line) × Appends old new line
+    × IfSome told (λ files. IsCauseIn files dir [] fault)
 
 -- the output grew by some text, or by a front of one
 abbrev pub SomeIsWritten : Option (List ℕ) → Option (List ℕ) → Type 0
