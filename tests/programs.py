@@ -1,8 +1,9 @@
 #!/usr/bin/env python3
 """Runs programs that are written down with what they must give, through the built program.
 
-A file `*.shown` has a line for each program, `TERM ==> ANSWER`: the module's page shows the term. In a file `*.whole` a program
-is a module between a line `=== NAME` and a line `--- ANSWER`. An answer is
+A file `*.shown` has a line for each program, `TERM ==> ANSWER`: the module's page shows the term. A line that begins
+with `+` has the declarations before that page in the programs behind it. In a file `*.whole` a program is a module
+between a line `=== NAME` and a line `--- ANSWER`. An answer is
     = TEXT      the page whose body holds this markup
     ~ TEXT      this output, status 0
     ! LINE      this line, status 1
@@ -10,9 +11,10 @@ is a module between a line `=== NAME` and a line `--- ANSWER`. An answer is
     5           nothing, status 5: there is not enough memory, and that is told within 20 seconds
 With a `?` behind the mark, as in `=? TEXT`, memory may run out in its place: nothing is written, and the status is 5.
 A word in brackets behind the name tells the command: `[check]` and `[explicit]` run over a folder with the module as
-`main.ur`, and `\\n` in the answer is then a line feed. In a file `*.whole` `20 TEXT` in backquotes stands for TEXT 20
-times, on one line or on many, and a `?` in TEXT for the number of each, from 0. The answers are written from the rules
-of the language, never from the program.
+`main.ur`, and `\\n` in the answer is then a line feed. `[page, 5 s]` also tells within how many seconds it has to end,
+where a cost that doubles with each level would take for ever; others have 60. In a file `*.whole` `20 TEXT` in
+backquotes stands for TEXT 20 times, on one line or on many, and a `?` in TEXT for the number of each, from 0. The
+answers are written from the rules of the language, never from the program.
 """
 import glob
 import os
@@ -28,7 +30,7 @@ BEHIND = "]}</body></xml>"
 class Program:
     """A program and what it must give."""
 
-    def __init__(self, where, text, answer, command="page", offset=0):
+    def __init__(self, where, text, answer, command="page", offset=0, seconds=0):
         self.where, self.text, self.command = where, text, command
         mark, _, rest = answer.partition(" ")
         rest = rest.replace("\\n", "\n")
@@ -36,7 +38,7 @@ class Program:
         if mark not in ("=", "~", "!", "@", "5"):
             raise ValueError(f"{where}: no answer: {answer}")
         self.status = 5 if mark == "5" else 0 if mark in "=~" else 1
-        self.seconds = 20 if mark == "5" else 60
+        self.seconds = seconds or (20 if mark == "5" else 60)
         if mark == "5":
             self.wanted = ""
         elif mark == "=":
@@ -73,12 +75,15 @@ class Program:
 
 def shown(path):
     """The programs of a file of terms."""
+    front = BEFORE
     with open(path, encoding="utf-8") as it:
         for number, line in enumerate(it, 1):
             line = line.rstrip("\n")
-            if line and not line.startswith("#"):
+            if line.startswith("+"):
+                front = f"{line[1:].strip()}\n{BEFORE}"
+            elif line and not line.startswith("#"):
                 term, _, answer = line.rpartition(" ==> ")
-                yield Program(f"{path}:{number}", BEFORE + term + BEHIND, answer, offset=len(BEFORE))
+                yield Program(f"{path}:{number}", front + term + BEHIND, answer, offset=len(front))
 
 
 def spread(text):
@@ -88,15 +93,15 @@ def spread(text):
 
 def whole(path):
     """The programs of a file of modules."""
-    name, command, lines = None, "page", []
+    name, command, seconds, lines = None, "page", 0, []
     with open(path, encoding="utf-8") as it:
         for line in it:
             if line.startswith("=== "):
-                found = re.match(r"=== (.*?)(?: \[(\w+)\])?$", line.rstrip("\n"))
-                name, command, lines = found[1], found[2] or "page", []
+                found = re.match(r"=== (.*?)(?: \[(\w+)(?:, (\d+) s)?\])?$", line.rstrip("\n"))
+                name, command, seconds, lines = found[1], found[2] or "page", int(found[3] or 0), []
             elif line.startswith("--- ") and name:
                 text = spread("".join(lines).removesuffix("\n"))
-                yield Program(f"{path}: {name}", text, spread(line[4:].rstrip("\n")), command)
+                yield Program(f"{path}: {name}", text, spread(line[4:].rstrip("\n")), command, seconds=seconds)
                 name = None
             elif name:
                 lines.append(line)

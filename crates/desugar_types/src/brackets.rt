@@ -2,13 +2,19 @@
 //! before it is known which of both it is.
 ghost use Rattle.std.specs.Prelude.{◌≡◌, [], IfOk};
 ghost use Rattle.plain_tree.specs.ConView.{con_tree, maybe_con};
+ghost use Rattle.plain_tree.specs.Trees.{con, con_name};
+ghost use Rattle.desugar_values.specs.Parts.{behind};
 ghost use Rattle.desugar_values.specs.View.{meaning_tree, meanings_tree};
+ghost use Rattle.desugar_types.specs.Paths.{path_of, within};
+ghost use Rattle.desugar_types.specs.Rows.{at_of};
+ghost use Rattle.desugar_types.specs.Tails.{more_tails};
 ghost use Rattle.desugar_types.specs.Brackets.{bracket_hash, bracket_name, bracket_rest, bracket_upper, bracket_value, bracket_word, bracketed, fields_row, hash_rest, label_at, name_rest, named_guard, named_row, number_guard, path_guard, plain_guard, row_at, upper_rest};
 
+use crate::boxes::{both, boxed_con};
 use crate::paths::{path_of, within};
 use crate::rows::row_with;
 use crate::tails::{more_tails, tails};
-use desugar_values::parts::con_of;
+use desugar_values::parts::{con_of, group_of, maybe_con_of};
 use desugar_values::words::{field_word, label_of};
 use desugar_values::{Meaning, Meanings};
 use plain_tree::{Con, ConFields, ConForm};
@@ -52,6 +58,22 @@ fn fields_row(
     named_row(alloc, at, name, value, more, parts)
 }
 
+/// A guard's left side, which begins with this constructor and `{ConIndex}`: `{ConTerm} {ConConcat}`, taken off.
+fn guard_left(
+    alloc: Global,
+    left: Con,
+    indexes: Meanings,
+    sides: &mut Meanings,
+) -> Result<Box<Con>, AllocError>
+    ensures left { IfOk result (λ b. con_tree b.value
+        ≡ more_tails (at_of (con_tree left)) (con_tree left) (meanings_tree indexes) (meanings_tree sides.old)) }
+    ensures behind { meanings_tree sides.new ≡ behind (behind (meanings_tree sides.old)) }
+{
+    let start = left.at;
+    let left = more_tails(alloc, start, left, indexes, sides)?;
+    boxed_con(alloc, left)
+}
+
 /// A guard whose left side begins with this constructor and `{ConIndex}`: `{ConTerm} {ConConcat} "~" ConSum "]"`.
 fn named_guard(
     alloc: Global,
@@ -65,11 +87,9 @@ fn named_guard(
         ≡ named_guard at (con_tree left) (meanings_tree indexes) (meanings_tree sides) (con_tree body)) }
 {
     let mut sides = sides;
-    let start = left.at;
-    let left = more_tails(alloc, start, left, indexes, &mut sides)?;
-    let left = Box::new(alloc, left)?;
-    let right = Box::new(alloc, con_of(sides.second()))?;
-    let body = Box::new(alloc, body)?;
+    let left = guard_left(alloc, left, indexes, &mut sides);
+    let right = boxed_con(alloc, con_of(sides.second()));
+    let ((left, right), body) = both(both(left, right), boxed_con(alloc, body))?;
     Ok(Con {
         at,
         form: ConForm::Guarded(left, right, body),
@@ -81,9 +101,9 @@ fn plain_guard(alloc: Global, at: u32, sides: Meanings, body: Con) -> Result<Con
     ensures { IfOk result (λ c. con_tree c ≡ plain_guard at (meanings_tree sides) (con_tree body)) }
 {
     let mut sides = sides;
-    let left = Box::new(alloc, sides.con())?;
-    let right = Box::new(alloc, con_of(sides.second()))?;
-    let body = Box::new(alloc, body)?;
+    let left = boxed_con(alloc, sides.con());
+    let right = boxed_con(alloc, con_of(sides.second()));
+    let ((left, right), body) = both(both(left, right), boxed_con(alloc, body))?;
     Ok(Con {
         at,
         form: ConForm::Guarded(left, right, body),
@@ -113,11 +133,10 @@ fn name_rest(
             sides,
             con_of(parts.second()),
         ),
-        Meaning::Con(_, value) => {
-            let value = Some(Box::into_inner(value));
+        other => {
+            let value = maybe_con_of(other);
             named_row(alloc, at, name, value, sides.several(alloc), parts)
         }
-        _ => named_row(alloc, at, name, None, sides.several(alloc), parts),
     }
 }
 
@@ -131,6 +150,19 @@ fn bracket_name(alloc: Global, at: u32, name: Con, parts: Meanings) -> Result<Co
     name_rest(alloc, at, name, head, sides, parts)
 }
 
+/// A module's name, and the `Path` behind its dot.
+fn outer_path(alloc: Global, outer: Token, parts: Meanings) -> Result<Con, AllocError>
+    ensures { IfOk result (λ c. con_tree c ≡ con outer.at (con_name (within outer (path_of (meanings_tree parts))))) }
+{
+    let at = outer.at;
+    let path = path_of(alloc, parts)?;
+    let path = within(alloc, outer, path)?;
+    Ok(Con {
+        at,
+        form: ConForm::Name(path),
+    })
+}
+
 /// A guard that begins with a module's name: behind the dot `Path {ConIndex} {ConTerm} {ConConcat} "~" ConSum "]"`.
 fn path_guard(
     alloc: Global,
@@ -142,14 +174,16 @@ fn path_guard(
     ensures { IfOk result (λ c. con_tree c ≡ path_guard at outer (meanings_tree sides) (con_tree body)) }
 {
     let mut sides = sides;
-    let start = outer.at;
-    let path = path_of(alloc, sides.group(alloc))?;
-    let left = Con {
-        at: start,
-        form: ConForm::Name(within(alloc, outer, path)?),
-    };
-    let indexes = sides.several(alloc);
-    named_guard(alloc, at, left, indexes, sides, body)
+    match outer_path(alloc, outer, sides.group(alloc)) {
+        Ok(left) => {
+            let indexes = sides.several(alloc);
+            named_guard(alloc, at, left, indexes, sides, body)
+        }
+        Err(full) => {
+            drop(body);
+            Err(full)
+        }
+    }
 }
 
 /// `BracketUpperRest` behind an upper-case name, by how its first tree begins: that of a guard with a dot.
@@ -167,26 +201,15 @@ fn upper_rest(
     let mut sides = sides;
     let mut parts = parts;
     match head {
-        Meaning::Word(_) => path_guard(alloc, at, token, sides, con_of(parts.second())),
-        Meaning::Con(_, value) => {
-            let value = Some(Box::into_inner(value));
-            named_row(
-                alloc,
-                at,
-                field_word(alloc, token),
-                value,
-                sides.several(alloc),
-                parts,
-            )
+        Meaning::Word(dot) => {
+            drop(dot);
+            path_guard(alloc, at, token, sides, con_of(parts.second()))
         }
-        _ => named_row(
-            alloc,
-            at,
-            field_word(alloc, token),
-            None,
-            sides.several(alloc),
-            parts,
-        ),
+        other => {
+            let name = field_word(alloc, token);
+            let value = maybe_con_of(other);
+            named_row(alloc, at, name, value, sides.several(alloc), parts)
+        }
     }
 }
 
@@ -242,14 +265,10 @@ fn hash_rest(
             let name = label_at(alloc, hash, token);
             bracket_name(alloc, at, name, parts.group(alloc))
         }
-        Meaning::Group(sides) => number_guard(alloc, at, hash, sides, con_of(parts.second())),
-        _ => number_guard(
-            alloc,
-            at,
-            hash,
-            Meanings::new(alloc),
-            con_of(parts.second()),
-        ),
+        other => {
+            let sides = group_of(alloc, other);
+            number_guard(alloc, at, hash, sides, con_of(parts.second()))
+        }
     }
 }
 
@@ -302,8 +321,10 @@ fn bracket_rest(alloc: Global, at: u32, head: Meaning, parts: Meanings) -> Resul
     let mut parts = parts;
     match head {
         Meaning::Word(token) => bracket_word(alloc, at, token, parts),
-        Meaning::Group(sides) => plain_guard(alloc, at, sides, con_of(parts.second())),
-        _ => plain_guard(alloc, at, Meanings::new(alloc), con_of(parts.second())),
+        other => {
+            let sides = group_of(alloc, other);
+            plain_guard(alloc, at, sides, con_of(parts.second()))
+        }
     }
 }
 
@@ -323,5 +344,5 @@ pub fn con_bracket(alloc: Global, parts: Meanings) -> Result<Meaning, AllocError
     let mut parts = parts;
     let at = parts.at();
     let con = bracketed(alloc, at, parts.group(alloc))?;
-    Ok(Meaning::Con(at, Box::new(alloc, con)?))
+    Ok(Meaning::Con(at, boxed_con(alloc, con)?))
 }

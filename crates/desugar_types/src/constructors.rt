@@ -5,6 +5,7 @@ ghost use Rattle.desugar_values.specs.Meanings.{a_con};
 ghost use Rattle.desugar_values.specs.View.{meaning_tree, meanings_tree};
 ghost use Rattle.desugar_types.specs.Constructors.{apply_value, con_at, fields_value, poly, group_end, hash_value, in_parens, is_implicit, lambda_value, lower, lower_tails, lower_value, other_value, parens_rest, parens_value, path_con, path_value, primary_value, product_value, record_value, row_value, sum_value, tuple, tuple_end, wild_value};
 
+use crate::boxes::{boxed_con, two_of};
 use crate::brackets::label_at;
 use crate::lists::{add_cons, places};
 use crate::paths::within;
@@ -21,7 +22,7 @@ use surface_tree::{Kind, Token};
 fn boxed(alloc: Global, start: u32, con: Con) -> Result<Meaning, AllocError>
     ensures { IfOk result (λ m. meaning_tree m ≡ a_con start (con_tree con)) }
 {
-    Ok(Meaning::Con(start, Box::new(alloc, con)?))
+    Ok(Meaning::Con(start, boxed_con(alloc, con)?))
 }
 
 /// A constructor that begins where its tree does.
@@ -39,8 +40,13 @@ pub fn con_lambda(alloc: Global, parts: Meanings) -> Result<Meaning, AllocError>
     let at = parts.at();
     let name = characters(alloc, parts.token().content);
     let kind = parts.kind();
-    let body = Box::new(alloc, con_of(parts.second()))?;
-    con_at(alloc, at, ConForm::Lambda(name, kind, body))
+    match boxed_con(alloc, con_of(parts.second())) {
+        Ok(body) => con_at(alloc, at, ConForm::Lambda(name, kind, body)),
+        Err(full) => {
+            drop(kind);
+            Err(full)
+        }
+    }
 }
 
 /// Whether colons are three.
@@ -58,12 +64,17 @@ fn poly(alloc: Global, name: Token, parts: Meanings) -> Result<Con, AllocError>
     let at = name.at;
     let implicit = is_implicit(parts.token().kind);
     let kind = parts.kind();
-    let body = Box::new(alloc, con_of(parts.second()))?;
     let name = characters(alloc, name.content);
-    Ok(Con {
-        at,
-        form: ConForm::Poly(implicit, name, kind, body),
-    })
+    match boxed_con(alloc, con_of(parts.second())) {
+        Ok(body) => Ok(Con {
+            at,
+            form: ConForm::Poly(implicit, name, kind, body),
+        }),
+        Err(full) => {
+            drop(kind);
+            Err(full)
+        }
+    }
 }
 
 /// A lower-case name with what follows it.
@@ -84,7 +95,10 @@ fn lower(alloc: Global, name: Token, mark: Meaning, parts: Meanings) -> Result<C
 {
     match mark {
         Meaning::Group(mark) => poly(alloc, name, mark),
-        _ => lower_tails(alloc, name, parts),
+        other => {
+            drop(other);
+            lower_tails(alloc, name, parts)
+        }
     }
 }
 
@@ -150,7 +164,7 @@ pub fn con_record(alloc: Global, parts: Meanings) -> Result<Meaning, AllocError>
     let mut parts = parts;
     let at = parts.at();
     let more = places(alloc, parts.several(alloc).into_list())?;
-    let con = Box::new(alloc, parts.con())?;
+    let con = boxed_con(alloc, parts.con())?;
     con_at(alloc, at, ConForm::Record(more, con))
 }
 
@@ -174,13 +188,16 @@ fn path_con(alloc: Global, parts: Meanings) -> Result<Meaning, AllocError>
     let token = parts.token();
     let at = token.at;
     let name = characters(alloc, token.content);
-    let Some(first) = upper.pop_front() else {
-        return con_at(alloc, at, ConForm::Name(bare(alloc, name)));
-    };
-    let at = start_of(&first);
-    let modules = modules(alloc, Meanings { items: upper })?;
-    let path = within(alloc, word_of(first), Path { modules, name })?;
-    con_at(alloc, at, ConForm::Name(path))
+    match upper.pop_front() {
+        None => con_at(alloc, at, ConForm::Name(bare(alloc, name))),
+        Some(first) => {
+            let at = start_of(&first);
+            let outer = word_of(first);
+            let modules = modules(alloc, Meanings { items: upper })?;
+            let path = within(alloc, outer, Path { modules, name })?;
+            con_at(alloc, at, ConForm::Name(path))
+        }
+    }
 }
 
 /// `ConPath = Path`
@@ -214,9 +231,7 @@ fn tuple(alloc: Global, at: u32, first: Con, parts: Meanings) -> Result<Con, All
     ensures { IfOk result (λ c. con_tree c ≡ tuple at (con_tree first) (meanings_tree parts)) }
 {
     let mut parts = parts;
-    let mut items = Vec::new(alloc);
-    items.push(first)?;
-    items.push(parts.con())?;
+    let items = two_of(alloc, first, parts.con())?;
     let items = add_cons(items, parts.several(alloc).into_list())?;
     Ok(Con {
         at,
@@ -246,7 +261,7 @@ fn group_end(alloc: Global, at: u32, con: Con, end: Meaning) -> Result<Con, Allo
 {
     match end {
         Meaning::Kind(kind) => {
-            let con = Box::new(alloc, con)?;
+            let con = boxed_con(alloc, con)?;
             Ok(Con {
                 at,
                 form: ConForm::Kinded(con, Box::into_inner(kind)),
@@ -257,7 +272,10 @@ fn group_end(alloc: Global, at: u32, con: Con, end: Meaning) -> Result<Con, Allo
             let kind = parts.token().kind;
             tuple_end(alloc, at, con, kind, parts)
         }
-        _ => Ok(con),
+        other => {
+            drop(other);
+            Ok(con)
+        }
     }
 }
 
@@ -267,10 +285,14 @@ fn parens_rest(alloc: Global, at: u32, first: Meaning, end: Meaning) -> Result<C
 {
     match first {
         Meaning::Con(_, con) => group_end(alloc, at, Box::into_inner(con), end),
-        _ => Ok(Con {
-            at,
-            form: ConForm::Unit,
-        }),
+        other => {
+            drop(other);
+            drop(end);
+            Ok(Con {
+                at,
+                form: ConForm::Unit,
+            })
+        }
     }
 }
 

@@ -7,6 +7,7 @@ ghost use Rattle.desugar_values.specs.Meanings.{a_kind};
 ghost use Rattle.desugar_values.specs.View.{meaning_tree, meanings_from, meanings_tree};
 ghost use Rattle.desugar_types.specs.Kinds.{kind_arrow, kind_components, kind_times, kinds_of, row_kind_value, term_value, tuple_value};
 
+use crate::boxes::{both, boxed_kind, two_of};
 use con_terms::kind::{Kind, Kinds};
 use desugar_values::parts::{kind_of, maybe_kind_of};
 use desugar_values::{Meaning, Meanings};
@@ -17,7 +18,7 @@ use std::collections::VecDeque;
 pub fn a_kind(alloc: Global, kind: Kind) -> Result<Meaning, AllocError>
     ensures { IfOk result (λ m. meaning_tree m ≡ a_kind (kind_tree kind)) }
 {
-    Ok(Meaning::Kind(Box::new(alloc, kind)?))
+    Ok(Meaning::Kind(boxed_kind(alloc, kind)?))
 }
 
 /// A kind with what its arrow leads to.
@@ -26,7 +27,10 @@ fn kind_arrow(alloc: Global, kind: Kind, to: Option<Kind>) -> Result<Kind, Alloc
 {
     match to {
         None => Ok(kind),
-        Some(to) => Ok(Kind::Arrow(Box::new(alloc, kind)?, Box::new(alloc, to)?)),
+        Some(to) => {
+            let (kind, to) = both(boxed_kind(alloc, kind), boxed_kind(alloc, to))?;
+            Ok(Kind::Arrow(kind, to))
+        }
     }
 }
 
@@ -46,7 +50,7 @@ pub fn kind_row(alloc: Global, parts: Meanings) -> Result<Meaning, AllocError>
 {
     let mut parts = parts;
     parts.skip();
-    let field = Box::new(alloc, parts.kind())?;
+    let field = boxed_kind(alloc, parts.kind())?;
     a_kind(alloc, Kind::Row(field))
 }
 
@@ -79,9 +83,7 @@ fn components(
     ensures { IfOk result (λ k. kind_tree k
         ≡ kind_components (kind_tree first) (kind_tree second) (meanings_from (map meaning_tree more.items))) }
 {
-    let mut items = Vec::new(alloc);
-    items.push(first)?;
-    items.push(second)?;
+    let items = two_of(alloc, first, second)?;
     let items = add_kinds(items, more)?;
     Ok(tuple_of(items))
 }

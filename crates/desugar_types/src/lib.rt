@@ -1,6 +1,7 @@
 //! Kinds, constructors, patterns and parameters without sugar, rule by rule.
 #![tactic(auto)]
 
+pub mod boxes;
 pub mod brackets;
 pub mod con_rules;
 pub mod constructors;

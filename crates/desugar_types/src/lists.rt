@@ -1,9 +1,11 @@
 //! The trees of repetitions as lists.
-ghost use Rattle.std.specs.Prelude.{◌≡◌, ◌++◌, IfOk, suc, length, map};
+ghost use Rattle.std.specs.Prelude.{◌≡◌, ◌++◌, ◌∷◌, IfOk, suc, length, map};
 ghost use Rattle.plain_tree.specs.ConView.{con_field_tree, con_tree};
+ghost use Rattle.desugar_values.specs.Parts.{con_of, number, word_of};
 ghost use Rattle.desugar_values.specs.View.{meaning_tree, meanings_from};
 ghost use Rattle.desugar_types.specs.Lists.{component_of, components_of, cons_of, numbers_of, places_of};
 
+use crate::boxes::one_of;
 use desugar_values::Meaning;
 use desugar_values::parts::{con_of, number, start_of, word_of};
 use desugar_values::words::component;
@@ -20,6 +22,19 @@ pub fn add_numbers(items: Vec<u64>, more: VecDeque<Meaning>) -> Result<Numbers, 
         items.push(number(&word_of(part).content))?;
     }
     Ok(Numbers { items })
+}
+
+/// The number of this token, and behind it those of further tokens.
+pub fn some_numbers(
+    alloc: Global,
+    first: Meaning,
+    more: VecDeque<Meaning>,
+) -> Result<Numbers, AllocError>
+    ensures { IfOk result (λ all. all ≡ number (word_of (meaning_tree first)).content
+        ∷ numbers_of (meanings_from (map meaning_tree more.items))) }
+{
+    let items = one_of(alloc, number(&word_of(first).content))?;
+    add_numbers(items, more)
 }
 
 /// The bytes at which these trees begin.
@@ -43,6 +58,19 @@ pub fn add_cons(items: Vec<Con>, more: VecDeque<Meaning>) -> Result<Vec<Con>, Al
         all.push(con_of(part))?;
     }
     Ok(all)
+}
+
+/// The constructor of this tree, and behind it those of further trees.
+pub fn some_cons(
+    alloc: Global,
+    first: Meaning,
+    more: VecDeque<Meaning>,
+) -> Result<Vec<Con>, AllocError>
+    ensures { IfOk result (λ all. map con_tree all.items
+        ≡ con_of (meaning_tree first) ∷ cons_of (meanings_from (map meaning_tree more.items))) }
+{
+    let items = one_of(alloc, con_of(first))?;
+    add_cons(items, more)
 }
 
 /// A tree as the component of a tuple with this number.

@@ -5,6 +5,7 @@ ghost use Rattle.desugar_values.specs.Parts.{behind, first, named};
 ghost use Rattle.desugar_values.specs.View.{meaning_tree, meanings_tree};
 ghost use Rattle.desugar_types.specs.Parameters.{arg_bracket, arg_from, arg_lower, arg_of, arg_start, args_of, empty_list, lower_guard, parameters, word_by};
 
+use crate::boxes::one_of;
 use crate::leading::{first_start, leading};
 use crate::tails::short_tails;
 use con_terms::kind::Kind;
@@ -62,7 +63,10 @@ fn word_parameter(alloc: Global, at: u32, token: Token, rest: Meaning) -> Result
 {
     match token.kind {
         TokenKind::LowerName => arg_lower(alloc, at, named(alloc, token), group_of(alloc, rest)),
-        _ => Ok(empty_list(at)),
+        _ => {
+            drop(rest);
+            Ok(empty_list(at))
+        }
     }
 }
 
@@ -77,7 +81,10 @@ fn arg_bracket(alloc: Global, at: u32, rest: Meanings) -> Result<Arg, AllocError
             Ok(Arg::Guard(at, Box::into_inner(left), rest.con()))
         }
         Meaning::Word(token) => word_parameter(alloc, at, token, rest.take()),
-        _ => Ok(empty_list(at)),
+        other => {
+            drop(other);
+            Ok(empty_list(at))
+        }
     }
 }
 
@@ -88,7 +95,11 @@ fn arg_from(alloc: Global, parts: Meanings) -> Result<Arg, AllocError>
     let mut parts = parts;
     match parts.take() {
         Meaning::Pat(_, pat) => Ok(Arg::Pat(Box::into_inner(pat))),
-        first => arg_bracket(alloc, start_of(&first), parts.group(alloc)),
+        first => {
+            let at = start_of(&first);
+            drop(first);
+            arg_bracket(alloc, at, parts.group(alloc))
+        }
     }
 }
 
@@ -137,8 +148,7 @@ pub fn parameters(alloc: Global, parts: &mut Meanings) -> Result<Args, AllocErro
 {
     let first = parts.take();
     let more = parts.several(alloc);
-    let mut items = Vec::new(alloc);
-    items.push(arg_of(alloc, first)?)?;
+    let items = one_of(alloc, arg_of(alloc, first)?)?;
     let items = add_args(alloc, items, more)?;
     Ok(Args { items })
 }

@@ -4,6 +4,7 @@ ghost use Rattle.plain_tree.specs.ConView.{pat_field_tree, pat_form_tree};
 ghost use Rattle.desugar_values.specs.View.{meaning_tree, meanings_tree};
 ghost use Rattle.desugar_types.specs.Patterns.{closed, component_field, components, constructor_by, in_parens, pattern, pattern_at, pattern_cons, pattern_constructor, pattern_int, pattern_list, pattern_name, pattern_negative, pattern_parens, pattern_string, pattern_variable, pattern_wild, tuple, upper_names};
 
+use crate::boxes::two_of;
 use crate::leading::leading;
 use desugar_values::parts::{characters, number, pat_of, start_of, word_of};
 use desugar_values::words::component;
@@ -50,9 +51,7 @@ fn add_components(items: Vec<PatField>, more: Meanings) -> Result<Vec<PatField>,
 fn tuple(alloc: Global, one: Meaning, two: Meaning, more: Meanings) -> Result<PatForm, AllocError>
     ensures { IfOk result (λ f. pat_form_tree f ≡ tuple (meaning_tree one) (meaning_tree two) (meanings_tree more)) }
 {
-    let mut items = Vec::new(alloc);
-    items.push(component_field(1, one))?;
-    items.push(component_field(2, two))?;
+    let items = two_of(alloc, component_field(1, one), component_field(2, two))?;
     let items = add_components(items, more)?;
     Ok(PatForm::Rec(PatFields { items }, false))
 }
@@ -76,7 +75,10 @@ pub fn pattern(alloc: Global, parts: Meanings) -> Result<Meaning, AllocError>
     let one = parts.take();
     match parts.take() {
         Meaning::Pat(start, two) => pattern_cons(alloc, one, Meaning::Pat(start, two)),
-        _ => Ok(one),
+        other => {
+            drop(other);
+            Ok(one)
+        }
     }
 }
 
@@ -105,7 +107,10 @@ fn constructor_by(
 {
     match held {
         Meaning::Pat(_, held) => pattern_at(alloc, at, PatForm::Holding(builder, held)),
-        _ => pattern_at(alloc, at, PatForm::Bare(builder)),
+        other => {
+            drop(other);
+            pattern_at(alloc, at, PatForm::Bare(builder))
+        }
     }
 }
 
@@ -213,7 +218,8 @@ fn in_parens(alloc: Global, at: u32, rest: Meanings) -> Result<Meaning, AllocErr
     let mut rest = rest;
     match rest.take() {
         Meaning::Pat(start, pat) => closed(alloc, at, Meaning::Pat(start, pat), rest.group(alloc)),
-        _ => {
+        other => {
+            drop(other);
             let items = Vec::new(alloc);
             pattern_at(alloc, at, PatForm::Rec(PatFields { items }, false))
         }

@@ -4,6 +4,7 @@ ghost use Rattle.plain_tree.specs.ConView.{con_field_tree, con_fields_from, con_
 ghost use Rattle.desugar_values.specs.View.{meaning_tree, meanings_tree};
 ghost use Rattle.desugar_types.specs.Rows.{field_at, field_more, field_types, fields_more, row_fields, row_more, row_with, rows_more, types_with, value_or_unit};
 
+use crate::boxes::one_of;
 use desugar_values::parts::{con_of, group_of};
 use desugar_values::words::field_name;
 use desugar_values::{Meaning, Meanings};
@@ -71,8 +72,7 @@ pub fn row_with(
         ≡ con_fields_from (row_with (con_tree name) (maybe_con value) (meanings_tree more))) }
 {
     let value = value_or_unit(&name, value);
-    let mut items = Vec::new(alloc);
-    items.push(field_at(name, value))?;
+    let items = one_of(alloc, field_at(name, value))?;
     let items = rows_more(alloc, items, more)?;
     Ok(ConFields { items })
 }
@@ -88,9 +88,12 @@ pub fn row_fields(alloc: Global, meaning: Meaning) -> Result<ConFields, AllocErr
             let value = parts.maybe_con();
             row_with(alloc, name, value, parts.several(alloc))
         }
-        _ => Ok(ConFields {
-            items: Vec::new(alloc),
-        }),
+        other => {
+            drop(other);
+            Ok(ConFields {
+                items: Vec::new(alloc),
+            })
+        }
     }
 }
 
@@ -127,8 +130,7 @@ fn types_with(alloc: Global, parts: Meanings) -> Result<ConFields, AllocError>
     let mut parts = parts;
     let name = field_name(alloc, parts.take());
     let value = con_of(parts.second());
-    let mut items = Vec::new(alloc);
-    items.push(field_at(name, value))?;
+    let items = one_of(alloc, field_at(name, value))?;
     let items = fields_more(alloc, items, parts.several(alloc))?;
     Ok(ConFields { items })
 }
@@ -139,8 +141,11 @@ pub fn field_types(alloc: Global, meaning: Meaning) -> Result<ConFields, AllocEr
 {
     match meaning {
         Meaning::Group(parts) => types_with(alloc, parts),
-        _ => Ok(ConFields {
-            items: Vec::new(alloc),
-        }),
+        other => {
+            drop(other);
+            Ok(ConFields {
+                items: Vec::new(alloc),
+            })
+        }
     }
 }

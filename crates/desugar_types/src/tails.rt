@@ -5,9 +5,9 @@ ghost use Rattle.desugar_values.specs.Parts.{behind};
 ghost use Rattle.desugar_values.specs.View.{meanings_tree};
 ghost use Rattle.desugar_types.specs.Tails.{applied, arrow, joined, more_tails, product, projected, record_at, short_tails, tails};
 
-use crate::lists::{add_components, add_cons, add_numbers, component_of};
+use crate::boxes::{both, boxed_con, two_of};
+use crate::lists::{add_components, component_of, some_cons, some_numbers};
 use desugar_values::Meanings;
-use desugar_values::parts::{con_of, number, word_of};
 use desugar_values::words::component;
 use plain_tree::{Con, ConField, ConFields, ConForm, Cons, Places};
 use std::alloc::{AllocError, Global};
@@ -17,16 +17,16 @@ pub fn projected(alloc: Global, at: u32, con: Con, indexes: Meanings) -> Result<
     ensures { IfOk result (λ c. con_tree c ≡ projected at (con_tree con) (meanings_tree indexes)) }
 {
     let mut indexes = indexes.into_list();
-    let Some(first) = indexes.pop_front() else {
-        return Ok(con);
-    };
-    let mut items = Vec::new(alloc);
-    items.push(number(&word_of(first).content))?;
-    let numbers = add_numbers(items, indexes)?;
-    Ok(Con {
-        at,
-        form: ConForm::Proj(Box::new(alloc, con)?, numbers),
-    })
+    match indexes.pop_front() {
+        None => Ok(con),
+        Some(first) => {
+            let (con, numbers) = both(boxed_con(alloc, con), some_numbers(alloc, first, indexes))?;
+            Ok(Con {
+                at,
+                form: ConForm::Proj(con, numbers),
+            })
+        }
+    }
 }
 
 /// A constructor with its arguments.
@@ -34,16 +34,16 @@ pub fn applied(alloc: Global, at: u32, con: Con, terms: Meanings) -> Result<Con,
     ensures { IfOk result (λ c. con_tree c ≡ applied at (con_tree con) (meanings_tree terms)) }
 {
     let mut terms = terms.into_list();
-    let Some(first) = terms.pop_front() else {
-        return Ok(con);
-    };
-    let mut items = Vec::new(alloc);
-    items.push(con_of(first))?;
-    let items = add_cons(items, terms)?;
-    Ok(Con {
-        at,
-        form: ConForm::Apply(Box::new(alloc, con)?, Cons { items }),
-    })
+    match terms.pop_front() {
+        None => Ok(con),
+        Some(first) => {
+            let (con, items) = both(boxed_con(alloc, con), some_cons(alloc, first, terms))?;
+            Ok(Con {
+                at,
+                form: ConForm::Apply(con, Cons { items }),
+            })
+        }
+    }
 }
 
 /// A constructor with what is joined to it.
@@ -51,16 +51,16 @@ pub fn joined(alloc: Global, at: u32, con: Con, concats: Meanings) -> Result<Con
     ensures { IfOk result (λ c. con_tree c ≡ joined at (con_tree con) (meanings_tree concats)) }
 {
     let mut concats = concats.into_list();
-    let Some(first) = concats.pop_front() else {
-        return Ok(con);
-    };
-    let mut items = Vec::new(alloc);
-    items.push(con_of(first))?;
-    let items = add_cons(items, concats)?;
-    Ok(Con {
-        at,
-        form: ConForm::Concat(Box::new(alloc, con)?, Cons { items }),
-    })
+    match concats.pop_front() {
+        None => Ok(con),
+        Some(first) => {
+            let (con, items) = both(boxed_con(alloc, con), some_cons(alloc, first, concats))?;
+            Ok(Con {
+                at,
+                form: ConForm::Concat(con, Cons { items }),
+            })
+        }
+    }
 }
 
 /// The record type of a row, written without `$`.
@@ -76,7 +76,7 @@ pub fn record(alloc: Global, at: u32, fields: ConFields) -> Result<Con, AllocErr
     };
     Ok(Con {
         at,
-        form: ConForm::Record(places, Box::new(alloc, row)?),
+        form: ConForm::Record(places, boxed_con(alloc, row)?),
     })
 }
 
@@ -85,18 +85,19 @@ pub fn product(alloc: Global, at: u32, con: Con, times: Meanings) -> Result<Con,
     ensures { IfOk result (λ c. con_tree c ≡ product at (con_tree con) (meanings_tree times)) }
 {
     let mut times = times.into_list();
-    let Some(second) = times.pop_front() else {
-        return Ok(con);
-    };
-    let mut items = Vec::new(alloc);
-    items.push(ConField {
-        at,
-        name: component(at, 1),
-        value: con,
-    })?;
-    items.push(component_of(2, second))?;
-    let items = add_components(items, times)?;
-    record(alloc, at, ConFields { items })
+    match times.pop_front() {
+        None => Ok(con),
+        Some(second) => {
+            let first = ConField {
+                at,
+                name: component(at, 1),
+                value: con,
+            };
+            let items = two_of(alloc, first, component_of(2, second))?;
+            let items = add_components(items, times)?;
+            record(alloc, at, ConFields { items })
+        }
+    }
 }
 
 /// A constructor with what its arrow leads to.
@@ -105,10 +106,13 @@ pub fn arrow(alloc: Global, at: u32, con: Con, to: Option<Con>) -> Result<Con, A
 {
     match to {
         None => Ok(con),
-        Some(to) => Ok(Con {
-            at,
-            form: ConForm::Arrow(Box::new(alloc, con)?, Box::new(alloc, to)?),
-        }),
+        Some(to) => {
+            let (con, to) = both(boxed_con(alloc, con), boxed_con(alloc, to))?;
+            Ok(Con {
+                at,
+                form: ConForm::Arrow(con, to),
+            })
+        }
     }
 }
 

@@ -1,5 +1,5 @@
-//! Tries the libraries that others stand on: texts, pages, links, projects, constructors and terms. Each trial is a line
-//! of the output, which says whether all came out as it was written down beforehand.
+//! Tries the libraries that others stand on: texts, pages, links, projects, constructors and terms. Each trial is a
+//! line of the output, which says whether all came out as it was written down beforehand.
 //!
 //! The clauses of the libraries say what their calls give; a trial shows what no clause can: that memory serves for
 //! large and deep inputs, that a definition means what a person expects, and what becomes of failures outside.

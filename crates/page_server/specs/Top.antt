@@ -56,8 +56,8 @@ abbrev pub FrontIsWritten : Option (List ℕ) → Option (List ℕ) → Option (
 FrontIsWritten before old new = IfSome before (λ input. (answer : List ℕ) × IsAnswer input answer
     × AppendsFront old new answer)
 
--- The project in a folder isn't built, and the output grew by the line that says why. Where the files are told, that has
--- its cause in them.
+-- The project in a folder isn't built, and the output grew by the line that says why. Where the files are told, that
+-- has its cause in them.
 abbrev pub UnbuiltIsWritten : Option Told → List ℕ → Option (List ℕ) → Option (List ℕ) → Type 0
 UnbuiltIsWritten told dir old new =
     (fault : BuildFault) × (line : List ℕ) × (line_of_build fault ≡ Some line) × Appends old new line

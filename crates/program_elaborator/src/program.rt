@@ -5,6 +5,7 @@ ghost use Rattle.core_terms.specs.Lists.{foreigns_view, rules_view};
 ghost use Rattle.core_terms.specs.View.{program_view};
 ghost use Rattle.plain_tree.specs.View.{plain_view};
 ghost use Rattle.program_elaborator.specs.Causes.{is_caused};
+ghost use Rattle.inserted_terms.specs.Programs.{InsertsChosen};
 ghost use Rattle.source_terms.specs.Programs.{is_source as says};
 
 use crate::causes::caused;
@@ -17,6 +18,7 @@ use crate::texts::all_texts;
 use core_terms::{Decls, Exports, Foreigns, Program, Rules};
 use name_scopes::Tops;
 use plain_tree::Plain;
+use inserted_terms::inserts_chosen;
 use source_terms::is_source;
 use std::alloc::{AllocError, Global};
 use table_rows::{Text, Texts};
@@ -37,7 +39,9 @@ pub struct Source {
 
 /// The explicit program that modules are, where their terms are elaborated so, or why they aren't. The program is what
 /// the modules say, with their names resolved and nothing left out. A name that is told as unbound stands where it is
-/// told and isn't in scope there, and the sides of a mismatch differ.
+/// told and isn't in scope there, and the sides of a mismatch differ. Each folder and each instance that a call inserts
+/// is the one that its rules choose for the parameter's type: of a folder the fields of the row in the written order,
+/// of an instance the last value that is declared for the class and the type.
 pub fn elaborate_with<T: Terms + Drop>(
     alloc: Global,
     terms: &T,
@@ -45,6 +49,8 @@ pub fn elaborate_with<T: Terms + Drop>(
 ) -> Result<Program, Refusal>
     ensures source { IfOk result (λ p. says source.modules (map plain_view source.trees.items) source.exported
         (rules_view source.rules) (foreigns_view source.foreign) (program_view p) ≡ true) }
+    ensures inserted { IfOk result
+        (λ p. InsertsChosen source.modules (map plain_view source.trees.items) (program_view p)) }
     ensures cause { IfErr result (λ r. is_caused source.modules (map plain_view source.trees.items)
         (foreigns_view source.foreign) r.fault ≡ true) }
 {
@@ -54,10 +60,13 @@ pub fn elaborate_with<T: Terms + Drop>(
     }
 }
 
-/// A program, where it is what its source says. One that isn't counts as want of memory.
+/// A program, where it is what its source says and inserts what its rules choose. One that isn't, or doesn't, counts as
+/// want of memory.
 fn held(alloc: Global, source: &Source, program: Program) -> Result<Program, Refusal>
     ensures source { IfOk result (λ p. says source.now.modules (map plain_view source.now.trees.items)
         source.now.exported (rules_view source.now.rules) (foreigns_view source.now.foreign) (program_view p) ≡ true) }
+    ensures inserted { IfOk result
+        (λ p. InsertsChosen source.now.modules (map plain_view source.now.trees.items) (program_view p)) }
     ensures cause { IfErr result (λ r. is_caused source.now.modules (map plain_view source.now.trees.items)
         (foreigns_view source.now.foreign) r.fault ≡ true) }
 {
@@ -70,7 +79,10 @@ fn held(alloc: Global, source: &Source, program: Program) -> Result<Program, Ref
         &source.foreign,
         &program,
     );
-    match read {
+    let Ok(true) = read else {
+        return Err(memory(alloc));
+    };
+    match inserts_chosen(alloc, &source.modules, source.trees.as_slice(), &program) {
         Ok(true) => Ok(program),
         _ => Err(memory(alloc)),
     }

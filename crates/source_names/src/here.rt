@@ -43,7 +43,7 @@ fn with_name(alloc: Global, name: &Text, names: &Rc<Names>) -> Result<Rc<Names>,
 /// How many binders further in than the innermost of a name others stand. More than 2^32 - 1 count as
 /// want of memory.
 #[cycle(binder_of)]
-fn binder_of(name: &Text, names: &Names) -> Result<Option<u32>, AllocError>
+pub fn binder_of(name: &Text, names: &Names) -> Result<Option<u32>, AllocError>
     ensures { IfOk result (λ o. o ≡ standing.binder_of name.now (names_view names.now)) }
 {
     match names {

@@ -90,7 +90,7 @@ impl Known {
     }
 
     /// The number of the module that is read.
-    fn last_home(&self) -> usize
+    pub fn last_home(&self) -> usize
         ensures { result ≡ scopes.last_home (declared_view self.now).modules }
     {
         self.modules.len().saturating_sub(1)
@@ -183,7 +183,7 @@ impl Known {
     }
 
     /// The number of the latest value of a name in a module.
-    fn value_in(&self, name: &Text, home: usize) -> Option<usize>
+    pub fn value_in(&self, name: &Text, home: usize) -> Option<usize>
         ensures { result ≡ standing.value_in name.now (declared_view self.now).values home }
     {
         let mark = mark_of(name);

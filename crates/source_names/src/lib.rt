@@ -15,7 +15,7 @@ mod values;
 
 pub use builders::{names_basis_builder, names_builder};
 pub use cons::reads_con;
-pub use here::{Here, Names};
+pub use here::{Here, Names, binder_of};
 pub use known::{Known, KnownBuilder, KnownType};
 pub use marked::KnownValue;
 pub use texts::is_text;

@@ -1,28 +1,67 @@
 //! What is likely meant where two types differ.
 use crate::actions::{begins_action, ends_operand};
-use crate::spot::{Spot, is_declaration_word, word_of};
-use crate::units::{Use, is_projected, use_of};
+use crate::spot::{Spot, is_declaration_word, is_word_part, word_of};
+use crate::units::{Use, behind_atom, is_projected, use_of};
 
 /// What is likely meant, behind a colon, or nothing.
 pub(crate) fn hint(wanted: &str, found: &str, spot: &Spot<'_>) -> &'static str {
     match wanted {
-        "( ) -> ( )" => hint_of_call(found, spot.rest),
-        "[ [ ] ~ [ ] ] => ( )" => ": if unequal is meant, it is written <>",
+        "( ) -> ( )" => hint_of_call(found, spot),
         "$ [ ]" => hint_of_record(found, spot),
         "url" if found == "string" => ": bless makes a url of a string",
         "string" if found == "int" || found == "bool" => ": show makes a string of a value",
-        _ => hint_of_action(wanted, found),
+        _ => hint_of_action(wanted, found, spot.rest),
     }
 }
 
 /// Where something that is no function is given an argument.
-fn hint_of_call(found: &str, rest: &str) -> &'static str {
-    match rest.split_once('\n') {
+fn hint_of_call(found: &str, spot: &Spot<'_>) -> &'static str {
+    let written = hint_of_word(found, spot);
+    if !written.is_empty() {
+        return written;
+    }
+    match spot.rest.split_once('\n') {
         Some((line, next))
             if found.starts_with("transaction ") && ends_operand(line) && begins_action(next) =>
             ": is a ; missing at the end of the line, or an argument too many?",
         Some((_, next)) if begins_unread(next) => ": does the next line lack its fun or val?",
         _ => ": is an argument too many, or a comma missing?",
+    }
+}
+
+/// Where a number or an operator is written as in another language, or nothing.
+fn hint_of_word(found: &str, spot: &Spot<'_>) -> &'static str {
+    if is_number_with_letters(spot.rest) {
+        return ": a number is made of digits alone";
+    }
+    let behind = hint_of_operator(found, word_of(behind_atom(spot.rest).trim_start()));
+    if behind.is_empty() && spot.before.ends_with('(') {
+        return hint_of_operator(found, word_of(behind_bracket(spot.rest).trim_start()));
+    }
+    behind
+}
+
+/// Whether a text begins with a number, and a letter or a `_` right behind it.
+fn is_number_with_letters(rest: &str) -> bool {
+    let behind = rest.trim_start_matches(|c: char| c.is_ascii_digit());
+    begins_with_digit(rest) && behind.starts_with(|c: char| is_word_part(c))
+}
+
+/// What stands behind the bracket that closes first in a text.
+fn behind_bracket(rest: &str) -> &str {
+    match rest.split_once(')') {
+        Some((_, behind)) => behind,
+        None => "",
+    }
+}
+
+/// A word that stands for an operator on values of a type, or nothing.
+fn hint_of_operator(found: &str, word: &str) -> &'static str {
+    match word {
+        "or" => ": two conditions are joined by ||",
+        "mod" if found == "int" => ": the rest of a division is written %, as in a % b",
+        "div" if found == "int" => ": a division is written /, as in a / b",
+        _ => "",
     }
 }
 
@@ -60,9 +99,11 @@ fn begins_with_digit(text: &str) -> bool {
 }
 
 /// Where an action stands for what it gives, or the other way round, and what is likely meant beside it.
-fn hint_of_action(wanted: &str, found: &str) -> &'static str {
+fn hint_of_action(wanted: &str, found: &str, rest: &str) -> &'static str {
     if is_action_of(wanted, found) {
         ": write return before it"
+    } else if is_action_of(found, wanted) && word_of(rest) == "return" {
+        ": write transaction before the type that is wanted, or take return away"
     } else if is_action_of(found, wanted) {
         ": bind what the action gives before, as in x <- e;"
     } else if wanted.starts_with("xml ") && is_shown(found) {

@@ -18,6 +18,7 @@ mod syntax;
 pub mod telling;
 mod types;
 mod units;
+mod written;
 
 pub use piece::{Piece, piece_of};
 pub use place::{Place, place_of};

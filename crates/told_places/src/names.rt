@@ -1,6 +1,6 @@
 //! The sentences on names that aren't bound.
 use crate::scan::{Form, Open, innermost};
-use crate::spot::{Spot, begins_with_capital, behind_word, said, tag_of};
+use crate::spot::{Spot, begins_with_capital, behind_word, last_word, said, tag_of};
 use std::alloc::{AllocError, Global};
 
 /// What is told of a name that nothing has.
@@ -40,6 +40,9 @@ fn remedy(name: &str, spot: &Spot<'_>, form: Form) -> &'static str {
         "false" => ": write False, with a capital",
         "null" | "nil" => ": None is the option without a value, and [] the empty list",
         _ if is_field(spot, form) => ": fields begin with a capital letter",
+        _ if is_field_behind_semicolon(name, spot, form) =>
+            ": between two fields stands a comma, and no ;",
+        _ if is_rest_of_list(spot.before) => ": between an item and its list stands ::",
         _ if is_parameter(name, spot) => ": the name of a parameter begins with a small letter",
         _ => ": declare it before, or check how it is written",
     }
@@ -55,6 +58,24 @@ fn is_field(spot: &Spot<'_>, form: Form) -> bool {
     form == Form::Curly
         && (before.ends_with('{') || before.ends_with(','))
         && (behind.starts_with('=') || behind.starts_with(':'))
+}
+
+/// Whether a field with its value stands behind a `;`.
+fn is_field_behind_semicolon(name: &str, spot: &Spot<'_>, form: Form) -> bool {
+    form == Form::Curly
+        && begins_with_capital(name)
+        && spot.before.trim_end().ends_with(';')
+        && behind_word(spot.rest).starts_with('=')
+}
+
+/// Whether a text ends with a `:` in a pattern in brackets, as one that is meant as `::`.
+fn is_rest_of_list(before: &str) -> bool {
+    match before.trim_end().rsplit_once('(') {
+        Some((front, item)) => item.ends_with(':')
+            && !item.ends_with("::")
+            && (front.trim_end().ends_with('|') || last_word(front.trim_end()) == "of"),
+        None => false,
+    }
 }
 
 /// Whether a name with a capital letter stands as a parameter does, with a type behind it.

@@ -1,6 +1,6 @@
 //! A refusal as its line tells it, and what a person is told of it beside that line.
-ghost use Rattle.std.specs.Prelude.{IfSome, option_map};
-ghost use Rattle.told_places.specs.Refusals.{IsRead};
+ghost use Rattle.std.specs.Prelude.{◌≡◌, ◌++◌, codes, IfSome, option_map};
+ghost use Rattle.told_places.specs.Refusals.{IsRead, at_words};
 
 use crate::project::{SENTENCE_OF_LINE, start_of, told_of_line};
 use crate::sentence::{SENTENCE_OF_BYTES, sentence_of, sentence_of_project};
@@ -18,25 +18,58 @@ pub struct Refusal<'a> {
     pub name: &'a str,
 }
 
+/// Whether a refusal of this name may be one of a project file or a folder, whose own name may have colons. Nothing
+/// stands behind these names.
+fn is_of_project(name: &str) -> bool {
+    name == "BadProject" || name == "FileTooLong"
+}
+
+/// What stands before the name of a refusal, and the name with the words that follow it, which may have colons too.
+fn split_name(line: &str) -> Option<(&str, &str)>
+    ensures { IfSome result (λ parts. line.now ≡ parts.0.now ++ codes ": " ++ parts.1.now) }
+{
+    match line.rsplit_once(": ") {
+        Some((place, name)) => {
+            if is_of_project(name) {
+                Some((place, name))
+            } else {
+                line.split_once(": ")
+            }
+        }
+        None => None,
+    }
+}
+
+/// Whether a text has digits alone.
+fn is_decimal(text: &str) -> bool {
+    !text.is_empty() && text.chars().all(|c| c.is_ascii_digit())
+}
+
+/// The file of a place, and the number behind its last colon, where one stands there.
+fn split_place(place: &str) -> (&str, Option<&str>)
+    ensures { place.now ≡ result.0.now ++ at_words (option_map (λ at. at.now) result.1) }
+{
+    match place.rsplit_once(':') {
+        Some((file, at)) => {
+            if is_decimal(at) {
+                (file, Some(at))
+            } else {
+                (place, None)
+            }
+        }
+        None => (place, None),
+    }
+}
+
 /// Reads a refusal's line, which ends with a line feed.
 pub fn read_refusal(line: &str) -> Option<Refusal<'_>>
     ensures { IfSome result
         (λ refusal. IsRead line.now refusal.file.now (option_map (λ at. at.now) refusal.at) refusal.name.now) }
 {
     let line = line.strip_suffix('\n')?;
-    let (place, name) = line.split_once(": ")?;
-    match place.split_once(':') {
-        Some((file, at)) => Some(Refusal {
-            file,
-            at: Some(at),
-            name,
-        }),
-        None => Some(Refusal {
-            file: place,
-            at: None,
-            name,
-        }),
-    }
+    let (place, name) = split_name(line)?;
+    let (file, at) = split_place(place);
+    Some(Refusal { file, at, name })
 }
 
 /// The text that these bytes begin with: all of them, or those up to the first that aren't UTF-8.

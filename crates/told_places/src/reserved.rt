@@ -2,7 +2,7 @@
 use crate::scan::Form;
 use crate::spot::{
     Spot, begins_with_capital, begins_with_small, behind_word, declaration_of, is_declaration_word,
-    last_line, last_word, said, word_of,
+    is_word_part, last_line, last_word, said, word_of,
 };
 use std::alloc::{AllocError, Global};
 
@@ -21,9 +21,16 @@ pub(crate) fn no_name(
         return Ok(Some(capital(alloc, declared, word)?));
     }
     if begins_with_small(word) && !is_reserved(word) && awaits_constructor(spot.before) {
-        return Ok(Some(small(alloc, word)?));
+        return Ok(Some(small(alloc, "a constructor", word)?));
     }
-    Ok(None)
+    if begins_with_small(word) && spot.before.ends_with('#') {
+        return Ok(Some(small(alloc, "a field", word)?));
+    }
+    let named = capital_type(spot.before);
+    if named.is_empty() || form == Form::Element || form == Form::Tag {
+        return Ok(None);
+    }
+    Ok(Some(no_type(alloc, named)?))
 }
 
 /// A reserved word.
@@ -47,12 +54,25 @@ fn capital(alloc: Global, declared: &str, name: &str) -> Result<String, AllocErr
     )
 }
 
-/// The name of a constructor with a small letter.
-fn small(alloc: Global, name: &str) -> Result<String, AllocError> {
+/// The name of something with a small letter.
+fn small(alloc: Global, named: &str, name: &str) -> Result<String, AllocError> {
     said(
         alloc,
         &[
-            "the name of a constructor begins with a capital letter, not with a small one as ",
+            "the name of ",
+            named,
+            " begins with a capital letter, not with a small one as ",
+            name,
+        ],
+    )
+}
+
+/// The name of a type with a capital letter.
+fn no_type(alloc: Global, name: &str) -> Result<String, AllocError> {
+    said(
+        alloc,
+        &[
+            "the name of a type begins with a small letter, not with a capital as ",
             name,
         ],
     )
@@ -65,6 +85,36 @@ fn declarator(before: &str) -> &str {
         word
     } else {
         ""
+    }
+}
+
+/// The name with a capital letter with which a text ends where a type stands, or nothing.
+fn capital_type(before: &str) -> &str {
+    let text = before.trim_end();
+    let name = last_word(text);
+    if begins_with_capital(name) && awaits_type(text.strip_suffix(name).unwrap_or("")) {
+        name
+    } else {
+        ""
+    }
+}
+
+/// Whether a type has to follow where a text ends.
+fn awaits_type(before: &str) -> bool {
+    let front = before_type_of_items(before.trim_end());
+    let first = word_of(last_line(front));
+    front.ends_with("->")
+        || front.ends_with(':') && !front.ends_with("::")
+        || front.ends_with('=') && (first == "type" || first == "con")
+}
+
+/// A text without the name of a type at its end that has another type behind it.
+fn before_type_of_items(text: &str) -> &str {
+    match last_word(text) {
+        "list" | "option" | "transaction" => text
+            .trim_end_matches(|c: char| is_word_part(c))
+            .trim_end(),
+        _ => text,
     }
 }
 

@@ -3,7 +3,7 @@ use crate::instances::instance_sentence;
 use crate::missing::{inexhaustive, unsolved};
 use crate::names::unbound;
 use crate::scan::{Form, innermost};
-use crate::spot::{Spot, said, tag_of, word_of};
+use crate::spot::{Spot, begins_with_capital, behind_word, said, tag_of, word_of};
 use crate::syntax::{lacking, syntax_sentence};
 use crate::types::{kind_mismatch, mismatch};
 use std::alloc::{AllocError, Global};
@@ -67,7 +67,7 @@ fn plain_sentence(name: &str, spot: &Spot<'_>) -> &'static str {
 /// Refusals of a text.
 fn of_text(name: &str) -> &'static str {
     match name {
-        "FileTooLong" => "this is longer than 4194304 bytes, the most that a module may have",
+        "FileTooLong" => "this is longer than 4194304 bytes, the most that a file may have",
         "NotUtf8" => SENTENCE_OF_BYTES,
         "OpenText" => "the string that begins here has no closing quote",
         "OpenComment" => "the comment that begins here isn't closed by a *)",
@@ -142,22 +142,37 @@ fn of_types(name: &str) -> &'static str {
 /// Why nothing that can be read begins here.
 fn bad_character(alloc: Global, spot: &Spot<'_>) -> Result<String, AllocError> {
     let open = innermost(alloc, spot.before)?;
-    if open.form == Form::Tag && spot.rest.starts_with('\'') {
-        return said(
-            alloc,
-            &["the value of an attribute stands in double quotes, as in title=\"a\""],
-        );
+    if open.form != Form::Tag {
+        return said(alloc, &[plain_character(spot, open.form)]);
     }
-    if open.form == Form::Tag {
+    if spot.rest.starts_with('<') {
         return lacking(alloc, spot, open);
     }
-    said(alloc, &[plain_character(spot, open.form)])
+    if begins_with_capital(spot.rest) && !behind_word(spot.rest).starts_with('=') {
+        return lacking(alloc, spot, open);
+    }
+    said(alloc, &[character_of_tag(spot.rest)])
+}
+
+/// Why nothing that can be read begins in a tag.
+fn character_of_tag(rest: &str) -> &'static str {
+    if rest.starts_with('\'') {
+        "the value of an attribute stands in double quotes, as in title=\"a\""
+    } else if rest.starts_with(',') || rest.starts_with(';') {
+        "attributes have blanks between them, and no comma or ;"
+    } else if begins_with_capital(rest) {
+        "the name of an attribute begins with a small letter, as in title=\"a\""
+    } else {
+        "no attribute and no value of one begins like this: is the > of the tag missing before?"
+    }
 }
 
 /// Why nothing that can be read begins here, by the character and by what is open.
 fn plain_character(spot: &Spot<'_>, form: Form) -> &'static str {
     if spot.before.is_empty() && spot.rest.starts_with('\u{feff}') {
         "the file begins with a byte order mark: save it as UTF-8 without one"
+    } else if spot.rest.starts_with('&') && form != Form::Element {
+        "a & alone is no sign: texts are joined by ^, and conditions by &&"
     } else if spot.rest.starts_with('&') {
         "no character has this name (a plain & is &amp;): there are &lt; &gt; &amp; &quot; &nbsp; and numbers, as &#169;"
     } else if spot.rest.starts_with('<') {

@@ -4,6 +4,7 @@ use crate::place::place_of;
 use crate::reserved::no_name;
 use crate::scan::{Form, Open, innermost};
 use crate::spot::{Spot, begins_line, is_declaration_word, said, tag_of, word_of};
+use crate::written::{of_head, other_code, other_sign};
 use std::alloc::{AllocError, Global};
 
 /// What is told of a place that no module has.
@@ -163,7 +164,7 @@ fn closer<'a>(spot: &Spot<'a>) -> &'a str {
 
 /// A sentence on what stands at a place; none, where the innermost open form, of this text, lacks something.
 fn plain_syntax(spot: &Spot<'_>, form: Form, text: &str) -> Option<&'static str> {
-    let written = other_sign(spot, form);
+    let written = other_sign(spot, form, text);
     if !written.is_empty() {
         return Some(written);
     }
@@ -178,22 +179,7 @@ fn plain_syntax(spot: &Spot<'_>, form: Form, text: &str) -> Option<&'static str>
     if !closer.is_empty() {
         return of_closer(closer, form);
     }
-    of_sign(spot, form)
-}
-
-/// What is written otherwise than it is at a place, or nothing.
-fn other_sign(spot: &Spot<'_>, form: Form) -> &'static str {
-    if spot.rest.starts_with('=') && spot.before.ends_with('=') {
-        "equality is written with one =, as in a = b"
-    } else if spot.rest.starts_with('=') && spot.before.ends_with('/') {
-        "unequal is written <>, as in a <> b"
-    } else if form != Form::Element && spot.before.trim_end().ends_with(';') {
-        "a ; stands between two actions, and none begins here: take away the ; before this"
-    } else if word_of(spot.rest) == "and" && !begins_line(spot.before) {
-        "two conditions are joined by && (in SQL by AND): and begins a declaration"
-    } else {
-        ""
-    }
+    of_sign(spot, form, text)
 }
 
 /// The module, or a declaration, ends too early.
@@ -219,30 +205,48 @@ fn of_closer(closer: &str, form: Form) -> Option<&'static str> {
 }
 
 /// Another sign at a place.
-fn of_sign(spot: &Spot<'_>, form: Form) -> Option<&'static str> {
+fn of_sign(spot: &Spot<'_>, form: Form, text: &str) -> Option<&'static str> {
     if is_list(spot, form) {
         return Some("is this a list? It is written with ::, as in 1 :: 2 :: 3 :: []");
     }
-    if form == Form::Case && (spot.rest.starts_with("=>") || spot.rest.starts_with('|')) {
-        return None;
+    match form {
+        Form::Case if spot.rest.starts_with("=>") || spot.rest.starts_with('|') => None,
+        Form::Tag => Some(
+            "a tag has attributes with values, as in title=\"a\", and ends with > or />",
+        ),
+        Form::Head => Some(of_sign_in_head(spot.rest, text)),
+        Form::Element => Some(SENTENCE_OF_SIGN),
+        _ => Some(of_sign_in_code(spot, form, text)),
     }
-    if form == Form::Tag {
-        return Some("a tag has attributes with values, as in title=\"a\", and ends with > or />");
+}
+
+/// What is told of a sign of which nothing else is known.
+const SENTENCE_OF_SIGN: &str = "no module has this at this place: docs/LANGUAGE.md shows each form";
+
+/// Another sign in the head of a declaration, which has this text.
+fn of_sign_in_head(rest: &str, text: &str) -> &'static str {
+    let known = of_head(text, rest);
+    if !known.is_empty() {
+        known
+    } else if rest.starts_with('=') {
+        SENTENCE_OF_SIGN
+    } else {
+        "the head of a declaration doesn't go on like this: is its = missing before?"
     }
-    if form == Form::Head && !spot.rest.starts_with('=') {
-        return Some("the head of a declaration doesn't go on like this: is its = missing before?");
+}
+
+/// Another sign outside of heads and of markup.
+fn of_sign_in_code(spot: &Spot<'_>, form: Form, text: &str) -> &'static str {
+    let known = other_code(spot, form, text);
+    if !known.is_empty() {
+        known
+    } else if spot.rest.starts_with("->") {
+        "-> stands in types alone: a branch is written p => e, and a function fn x => e"
+    } else if form == Form::Module && is_no_declaration(spot) {
+        "a declaration begins with fun, val, type, con, datatype, table, sequence or cookie"
+    } else {
+        SENTENCE_OF_SIGN
     }
-    if spot.rest.starts_with("->") {
-        return Some(
-            "-> stands in types alone: a branch is written p => e, and a function fn x => e",
-        );
-    }
-    if form == Form::Module && is_no_declaration(spot) {
-        return Some(
-            "a declaration begins with fun, val, type, con, datatype, table, sequence or cookie",
-        );
-    }
-    Some("no module has this at this place: docs/LANGUAGE.md shows each form")
 }
 
 /// Whether a line begins here, with a word that begins no declaration, or the module.

@@ -71,14 +71,41 @@ fn sides_of(words: &str) -> (&str, &str) {
 
 /// Two types that differ, and what is likely meant.
 fn differ(alloc: Global, wanted: &str, found: &str, spot: &Spot<'_>) -> Result<String, AllocError> {
-    let found_type = with_units(alloc, found_type(found, spot.rest))?;
+    let found_type = with_units(alloc, found)?;
+    if wanted == "[ [ ] ~ [ ] ] => ( )" {
+        return no_guard(alloc, found_type.as_str());
+    }
     let wanted_type = with_units(alloc, wanted_type(wanted, spot))?;
-    differing(
+    let hint = hint(wanted, found, spot);
+    match found_shape(found, spot.rest) {
+        "" => differing(
+            alloc,
+            subject(found, spot.rest),
+            found_type.as_str(),
+            wanted_type.as_str(),
+            hint,
+        ),
+        shape => other_shape(alloc, shape, wanted_type.as_str(), hint),
+    }
+}
+
+/// A `!` behind what takes none, which has this type.
+fn no_guard(alloc: Global, found: &str) -> Result<String, AllocError> {
+    said(
         alloc,
-        subject(found, spot.rest),
-        found_type.as_str(),
-        wanted_type.as_str(),
-        hint(wanted, found, spot),
+        &[
+            "no ! may stand behind this, which has the type ",
+            found,
+            ": unequal is written <>, as in a <> b",
+        ],
+    )
+}
+
+/// What is of a shape, the wanted type, and what is likely meant.
+fn other_shape(alloc: Global, shape: &str, wanted: &str, hint: &str) -> Result<String, AllocError> {
+    said(
+        alloc,
+        &["this is ", shape, ", but ", wanted, " is wanted here", hint],
     )
 }
 
@@ -113,31 +140,38 @@ fn differing(
     )
 }
 
-/// A type as it is told, where it stands for all of its shape.
-fn shown_type(words: &str) -> &str {
+/// A type as it is told, where it stands for all of its shape; or nothing.
+fn shape_of(words: &str) -> &'static str {
     match words {
         "( ) -> ( )" => "a function",
         "transaction ( )" => "an action",
-        "[ [ ] ~ [ ] ] => ( )" => "what takes a !",
-        _ => words,
+        _ => "",
     }
 }
 
-/// A found type as it is told: that of the empty record stands for any record at a pattern of one.
-fn found_type<'a>(found: &'a str, rest: &str) -> &'a str {
+/// A found type where it stands for all of its shape, or nothing. At a pattern that of the empty record does.
+fn found_shape(found: &str, rest: &str) -> &'static str {
     let is_pattern = rest.starts_with('{') || rest.starts_with('(');
     if found == "$ [ ]" && is_pattern && !rest.starts_with("()") && !rest.starts_with("{}") {
         "a record"
     } else {
-        shown_type(found)
+        shape_of(found)
     }
 }
 
 /// A wanted type as it is told: that of the empty record stands for any record where the text uses one.
 fn wanted_type<'a>(wanted: &'a str, spot: &Spot<'_>) -> &'a str {
-    if wanted != "$ [ ]" {
-        return shown_type(wanted);
+    if wanted == "$ [ ]" {
+        return wanted_record(spot);
     }
+    match shape_of(wanted) {
+        "" => wanted,
+        shape => shape,
+    }
+}
+
+/// The empty record's type as it is told where it is wanted.
+fn wanted_record(spot: &Spot<'_>) -> &'static str {
     match use_of(spot) {
         Use::Record => "a record",
         Use::Unit => "unit",
@@ -268,17 +302,29 @@ fn where_of(context: &str) -> &'static str {
 
 /// An element that may not stand in this place.
 fn other_place(alloc: Global, name: &str, own: &str, here: &str) -> Result<String, AllocError> {
+    if name == "form" && here == "in a form" {
+        return said(alloc, &["no form stands in another form"]);
+    }
     said(
         alloc,
         &[
             "the element ",
             name,
             " stands ",
-            own,
+            own_place(name, own),
             ", but this place is ",
             here,
         ],
     )
+}
+
+/// Where an element stands, by its name and by where elements of its context do.
+fn own_place<'a>(name: &str, own: &'a str) -> &'a str {
+    match name {
+        "head" => "beside body",
+        "body" => "beside head",
+        _ => own,
+    }
 }
 
 /// The field that a record has to have, where it is all that is known of it.

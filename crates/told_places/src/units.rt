@@ -57,7 +57,7 @@ fn is_joined(spot: &Spot<'_>) -> bool {
 }
 
 /// What stands behind a name, a number or a string with which a text begins.
-fn behind_atom(rest: &str) -> &str {
+pub(crate) fn behind_atom(rest: &str) -> &str {
     match rest.strip_prefix('"') {
         Some(inner) => match inner.split_once('"') {
             Some((_, behind)) => behind,

@@ -1,0 +1,2 @@
+-- What the line of a refusal says behind its place.
+pub mod Lines

@@ -1,0 +1,12 @@
+use Rattle.std.proofs.Common.{◌≡◌, map, drop, Some}
+use Rattle.con_terms.specs.Trees.{con_list}
+use Rattle.con_terms.specs.View.{con_tree, cons_tree, pairs_tree}
+use Rattle.con_terms.specs.declared.con.Con.TheViews.{out-Cons}
+use Rattle.guided_terms.specs.Forms.{literal_fields}
+use Rattle.inserted_terms.specs.View.{fields_left}
+use Rattle.inserted_terms.proofs.folders.have_fields.Given as goal
+
+abbrev pub invariant-loop-i : goal.invariant-loop-i
+invariant-loop-i l =
+    literal_fields (map con_tree (drop l.i (out-Cons l.pieces).items.items)) ≡ Some (fields_left l.fields l.next)
+    → literal_fields (con_list (cons_tree l.pieces)) ≡ Some (pairs_tree l.fields)

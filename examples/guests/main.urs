@@ -1,0 +1,2 @@
+val main : unit -> transaction page
+val shown : list Guests.guest -> transaction page

@@ -1,0 +1,3 @@
+type t = int
+val x : t = 1
+type t = string

@@ -1,0 +1,3 @@
+val x = A.y
+val z = A.x
+val w = x

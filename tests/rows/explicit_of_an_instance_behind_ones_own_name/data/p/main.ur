@@ -1,0 +1,2 @@
+val i = 1
+val t = show i

@@ -1,0 +1,1 @@
+datatype color = Red | Green

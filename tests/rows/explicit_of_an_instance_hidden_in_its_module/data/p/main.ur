@@ -1,0 +1,1 @@
+val t = show A.j

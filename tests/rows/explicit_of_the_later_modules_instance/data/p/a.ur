@@ -1,0 +1,1 @@
+val i : show int = mkShow (fn n => "a")
