@@ -2,3 +2,5 @@
 pub mod Stripping
 -- The trees of lists of terms have their elements (for `len`, `at`, `push`).
 pub mod Elements
+-- What an element more does to what is said of a list (for `push`).
+pub mod Added

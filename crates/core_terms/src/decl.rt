@@ -4,10 +4,7 @@
 //! outside inwards.
 use crate::exp::{Named, NamedList};
 use crate::names::Symbols;
-use con_terms::con::Con;
-use con_terms::kind::Kind;
-use con_terms::place::Place;
-use con_terms::symbol::Sym;
+use con_terms::{Con, Kind, Place, Sym};
 
 /// A declaration of a module. Contracts see it as `decl_tree`.
 #[derive(Drop)]

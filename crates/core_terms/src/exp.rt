@@ -6,10 +6,7 @@
 use crate::basis::BasisName;
 use crate::pat::Pat;
 use crate::sql::Skeleton;
-use con_terms::con::{Con, Pairs};
-use con_terms::kind::Kind;
-use con_terms::place::Place;
-use con_terms::symbol::Sym;
+use con_terms::{Con, Kind, Pairs, Place, Sym};
 use table_rows::Text;
 use xml_trees::{AttrName, TagName};
 

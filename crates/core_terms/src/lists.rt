@@ -8,6 +8,15 @@ use crate::exp::{
 use crate::pat::{PatField, PatFields};
 use std::alloc::{AllocError, Global};
 
+/// Adds an element at the end. An `Err` changes nothing. What is added is let go here where there is no memory for it, so
+/// that no list does so for the wide type of its own elements.
+pub(crate) fn add<T: Drop>(items: &mut Vec<T>, item: T) -> Result<(), AllocError>
+    ensures grown { OnOk result (items.new.items ≡ items.old.items ++ item ∷ []) }
+    ensures kept { OnErr result (items.new.items ≡ items.old.items) }
+{
+    Ok(items.push(item)?)
+}
+
 impl Items {
     ghost use Rattle.core_terms.specs.Lists.{item_list, item_tree};
     ghost use Rattle.core_terms.specs.View.{items_tree};
@@ -27,7 +36,7 @@ impl Items {
             ≡ item_list (items_tree self.old) ++ item_tree item ∷ []) }
         ensures kept { OnErr result (item_list (items_tree self.new) ≡ item_list (items_tree self.old)) }
     {
-        Ok(self.items.push(item)?)
+        add(&mut self.items, item)
     }
 
     /// The number of items.
@@ -65,7 +74,7 @@ impl NamedList {
             ≡ name_list (named_list_tree self.old) ++ named_tree name ∷ []) }
         ensures kept { OnErr result (name_list (named_list_tree self.new) ≡ name_list (named_list_tree self.old)) }
     {
-        Ok(self.items.push(name)?)
+        add(&mut self.items, name)
     }
 
     /// The number of names.
@@ -103,7 +112,7 @@ impl Locals {
             ≡ local_list (locals_tree self.old) ++ local_tree declaration ∷ []) }
         ensures kept { OnErr result (local_list (locals_tree self.new) ≡ local_list (locals_tree self.old)) }
     {
-        Ok(self.items.push(declaration)?)
+        add(&mut self.items, declaration)
     }
 
     /// The number of declarations.
@@ -141,7 +150,7 @@ impl Branches {
             ≡ branch_list (branches_tree self.old) ++ branch_tree branch ∷ []) }
         ensures kept { OnErr result (branch_list (branches_tree self.new) ≡ branch_list (branches_tree self.old)) }
     {
-        Ok(self.items.push(branch)?)
+        add(&mut self.items, branch)
     }
 
     /// The number of branches.
@@ -179,7 +188,7 @@ impl Fields {
             ≡ field_list (fields_tree self.old) ++ field_tree field ∷ []) }
         ensures kept { OnErr result (field_list (fields_tree self.new) ≡ field_list (fields_tree self.old)) }
     {
-        Ok(self.items.push(field)?)
+        add(&mut self.items, field)
     }
 
     /// The number of fields.
@@ -218,7 +227,7 @@ impl Attributes {
         ensures kept { OnErr result (attribute_list (attributes_tree self.new)
             ≡ attribute_list (attributes_tree self.old)) }
     {
-        Ok(self.items.push(attribute)?)
+        add(&mut self.items, attribute)
     }
 
     /// The number of attributes.
@@ -256,7 +265,7 @@ impl Exps {
             ≡ exp_list (exps_tree self.old) ++ exp_tree term ∷ []) }
         ensures kept { OnErr result (exp_list (exps_tree self.new) ≡ exp_list (exps_tree self.old)) }
     {
-        Ok(self.items.push(term)?)
+        add(&mut self.items, term)
     }
 
     /// The number of terms.
@@ -294,7 +303,7 @@ impl Nodes {
             ≡ node_list (nodes_tree self.old) ++ node_tree node ∷ []) }
         ensures kept { OnErr result (node_list (nodes_tree self.new) ≡ node_list (nodes_tree self.old)) }
     {
-        Ok(self.items.push(node)?)
+        add(&mut self.items, node)
     }
 
     /// The number of nodes.
@@ -333,7 +342,7 @@ impl PatFields {
         ensures kept { OnErr result (pat_field_list (pat_fields_tree self.new)
             ≡ pat_field_list (pat_fields_tree self.old)) }
     {
-        Ok(self.items.push(field)?)
+        add(&mut self.items, field)
     }
 
     /// The number of fields.

@@ -1,7 +1,7 @@
 //! Lists of symbols.
 ghost use Rattle.std.specs.Prelude.{◌≡◌, ◌<◌, ◌++◌, ◌∷◌, [], Some, length, slice_get, OnOk, OnErr};
 
-use con_terms::symbol::Sym;
+use con_terms::Sym;
 use std::alloc::{AllocError, Global};
 
 /// Symbols in order. Contracts see them as the list of their numbers.

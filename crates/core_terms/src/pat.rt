@@ -1,7 +1,5 @@
 //! Patterns.
-use con_terms::con::Con;
-use con_terms::place::Place;
-use con_terms::symbol::Sym;
+use con_terms::{Con, Place, Sym};
 use table_rows::Text;
 
 /// A pattern. Contracts see it as the tree `pat_tree`.

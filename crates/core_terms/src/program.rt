@@ -1,7 +1,6 @@
 //! Programs.
 use crate::decl::Decls;
-use con_terms::kind::Kind;
-use con_terms::symbol::Sym;
+use con_terms::{Kind, Sym};
 use table_rows::{Text, Texts};
 
 /// A rule on addresses: whether what fits it is allowed.

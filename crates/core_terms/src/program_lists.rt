@@ -2,6 +2,7 @@
 ghost use Rattle.std.specs.Prelude.{◌≡◌, ◌<◌, ◌++◌, ◌∷◌, [], Some, length, slice_get, OnOk, OnErr};
 
 use crate::decl::{Column, Columns, Constructor, Constructors, Decl, Decls};
+use crate::lists::add;
 use crate::pat::{Pat, Pats};
 use crate::program::{Exports, FolderName, Folders, ForeignName, Foreigns, Rule, Rules};
 use std::alloc::{AllocError, Global};
@@ -23,7 +24,7 @@ impl Pats {
         ensures grown { OnOk result (pats_view self.new ≡ pats_view self.old ++ pat_tree pattern ∷ []) }
         ensures kept { OnErr result (pats_view self.new ≡ pats_view self.old) }
     {
-        Ok(self.items.push(pattern)?)
+        add(&mut self.items, pattern)
     }
 
     /// The number of patterns.
@@ -61,7 +62,7 @@ impl Constructors {
             ≡ constructors_view self.old ++ constructor_view constructor ∷ []) }
         ensures kept { OnErr result (constructors_view self.new ≡ constructors_view self.old) }
     {
-        Ok(self.items.push(constructor)?)
+        add(&mut self.items, constructor)
     }
 
     /// The number of constructors.
@@ -98,7 +99,7 @@ impl Columns {
         ensures grown { OnOk result (columns_view self.new ≡ columns_view self.old ++ column_view column ∷ []) }
         ensures kept { OnErr result (columns_view self.new ≡ columns_view self.old) }
     {
-        Ok(self.items.push(column)?)
+        add(&mut self.items, column)
     }
 
     /// The number of columns.
@@ -134,7 +135,7 @@ impl Decls {
         ensures grown { OnOk result (decls_view self.new ≡ decls_view self.old ++ decl_tree declaration ∷ []) }
         ensures kept { OnErr result (decls_view self.new ≡ decls_view self.old) }
     {
-        Ok(self.items.push(declaration)?)
+        add(&mut self.items, declaration)
     }
 
     /// The number of declarations.
@@ -171,7 +172,7 @@ impl Rules {
         ensures grown { OnOk result (rules_view self.new ≡ rules_view self.old ++ rule_view rule ∷ []) }
         ensures kept { OnErr result (rules_view self.new ≡ rules_view self.old) }
     {
-        Ok(self.items.push(rule)?)
+        add(&mut self.items, rule)
     }
 
     /// The number of rules.
@@ -208,7 +209,7 @@ impl Foreigns {
         ensures grown { OnOk result (foreigns_view self.new ≡ foreigns_view self.old ++ foreign_view effect ∷ []) }
         ensures kept { OnErr result (foreigns_view self.new ≡ foreigns_view self.old) }
     {
-        Ok(self.items.push(effect)?)
+        add(&mut self.items, effect)
     }
 
     /// The number of effects.
@@ -245,7 +246,7 @@ impl Folders {
         ensures grown { OnOk result (folders_view self.new ≡ folders_view self.old ++ folder_view folder ∷ []) }
         ensures kept { OnErr result (folders_view self.new ≡ folders_view self.old) }
     {
-        Ok(self.items.push(folder)?)
+        add(&mut self.items, folder)
     }
 
     /// The number of folders.
@@ -281,7 +282,7 @@ impl Exports {
         ensures grown { OnOk result (self.new.items.items ≡ self.old.items.items ++ number ∷ []) }
         ensures kept { OnErr result (self.new.items.items ≡ self.old.items.items) }
     {
-        Ok(self.items.push(number)?)
+        add(&mut self.items, number)
     }
 
     /// The number of values.
