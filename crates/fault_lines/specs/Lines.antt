@@ -29,13 +29,14 @@ abbrev pub IsToldOf : Fault → Place → List ℕ → Type 0
 IsToldOf fault place text = (place ≡ at fault) × IsTextOf fault text
 
 -- What is told of a fault of inference: its place, and its text. A name that isn't bound is told whole. Want of memory
--- isn't told, and neither is a symbol that is wanted, for which the declaration is elaborated anew.
+-- isn't told, and neither is a symbol that is wanted, for which the declaration is elaborated anew, nor a form that isn't
+-- built yet: such forms are told before inference begins.
 abbrev pub IsToldOfElaboration : ElabFault → Place → List ℕ → Type 0
 IsToldOfElaboration (elab.Unbound p name) place text = (place ≡ p) × (text ≡ codes "Unbound " ++ name)
 IsToldOfElaboration (elab.Told fault) place text = IsToldOf (fault_tree fault) place text
 IsToldOfElaboration (elab.NoInstance p) place text = (place ≡ p) × (text ≡ codes "NoInstance")
 IsToldOfElaboration (elab.NoFolder p) place text = (place ≡ p) × (text ≡ codes "NoFolder")
 IsToldOfElaboration (elab.Unsolved p) place text = (place ≡ p) × (text ≡ codes "Unsolved")
-IsToldOfElaboration (elab.NotBuilt p) place text = (place ≡ p) × (text ≡ codes "NotBuilt")
+IsToldOfElaboration (elab.NotBuilt p) place text = ⊥
 IsToldOfElaboration (elab.WantsFolder kind) place text = ⊥
 IsToldOfElaboration elab.Memory place text = ⊥

@@ -5,9 +5,9 @@ ghost use Rattle.type_faults.specs.View.{fault_tree};
 
 use crate::names::{twice, unbound};
 use crate::shapes::shape;
-use con_terms::place::Place;
+use con_terms::Place;
 use core_terms::{Program, Symbols};
-use disjoint_prover::fault::Pieces;
+use disjoint_prover::Pieces;
 use explicit_text::cons::WHOLE;
 use explicit_text::tasks::{con, kind, word};
 use explicit_text::{Known, Printer, Scope, Style, Tasks, run};
@@ -212,7 +212,6 @@ pub fn told_of_elaboration(
         ElabFault::NoInstance(place) => bare(alloc, *place, "NoInstance"),
         ElabFault::NoFolder(place) => bare(alloc, *place, "NoFolder"),
         ElabFault::Unsolved(place) => bare(alloc, *place, "Unsolved"),
-        ElabFault::NotBuilt(place) => bare(alloc, *place, "NotBuilt"),
         _ => Err(AllocError),
     }
 }

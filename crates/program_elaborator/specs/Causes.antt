@@ -42,18 +42,18 @@ is_flaw (Some f) = true
 abbrev pub touch : Pieces → Bool
 touch d = is_flaw (not_apart [] (con_tree d.left) (con_tree d.right))
 
--- a fault of types
+-- A fault of types. Names that aren't bound are no such faults of inference, and the rest the checker alone tells.
 abbrev pub is_told_rightly : Fault → Bool
 is_told_rightly (told.Mismatch p s t) = differ t.value
-is_told_rightly (told.Unbound p n) = true
+is_told_rightly (told.Unbound p n) = false
 is_told_rightly (told.KindMismatch p d) = kinds_differ d.value
 is_told_rightly (told.NotDisjoint p s d) = touch d.value
-is_told_rightly (told.Inexhaustive p s d) = true
-is_told_rightly (told.Redeclared p t) = true
-is_told_rightly (told.LinkNotCall p) = true
-is_told_rightly (told.NotSerialisable p) = true
+is_told_rightly (told.Inexhaustive p s d) = false
+is_told_rightly (told.Redeclared p t) = false
+is_told_rightly (told.LinkNotCall p) = false
+is_told_rightly (told.NotSerialisable p) = false
 is_told_rightly (told.TooLarge p) = true
-is_told_rightly (told.NotBuilt p) = true
+is_told_rightly (told.NotBuilt p) = false
 
 -- a fault that is told of modules of these names, with these foreign effects
 abbrev pub is_caused : List Words → List (List DeclTree) → List (Words × Words) → ElabFault → Bool

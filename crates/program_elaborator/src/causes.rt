@@ -7,9 +7,8 @@ ghost use Rattle.program_elaborator.specs.Causes.{differ as are_different, is_ca
 
 use crate::fault::{Refusal, memory};
 use crate::program::Source;
-use con_terms::kind::{Kind, same_kind};
-use disjoint_prover::fault::Pieces;
-use disjoint_prover::guards::Guards;
+use con_terms::{Kind, same_kind};
+use disjoint_prover::{Guards, Pieces};
 use kind_rules::compare::{Comparison, compare, flaw_between};
 use kind_rules::flaw::Differing;
 use name_scopes::ElabFault;
@@ -54,7 +53,8 @@ fn is_right(alloc: Global, fault: &Fault) -> Result<bool, AllocError>
         Fault::Mismatch(_, _, types) => differ(alloc, types),
         Fault::KindMismatch(_, kinds) => Ok(kinds_differ(kinds)),
         Fault::NotDisjoint(_, _, pieces) => touch(alloc, pieces),
-        _ => Ok(true),
+        Fault::TooLarge(_) => Ok(true),
+        _ => Ok(false),
     }
 }
 

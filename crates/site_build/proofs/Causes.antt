@@ -4,7 +4,6 @@ use Rattle.ur_outside.specs.Files.{Told}
 use Rattle.ur_parser.specs.Sources.{module_part}
 use Rattle.surface_grammar.specs.Trees.{Node}
 use Rattle.project_sources.specs.Causes.{Says}
-use Rattle.project_sources.specs.Modules.{ModuleTrees}
 use Rattle.project_sources.specs.Projects.{HoldsProject, HoldsNoProject, ProjectTrees}
 use Rattle.project_sources.specs.Texts.{HasNoTree, IsModuleTree}
 use Rattle.project_sources.specs.declared.fault.SourceFault.{SourceFault}
@@ -17,20 +16,20 @@ use Rattle.site_build.specs.declared.fault.BuildFault.{BuildFault}
 use Rattle.site_build.specs.declared.fault.BuildFault.TheVariants.{Source, NotBuilt, Refused, ReadFault, Memory}
 
 -- a fault of forms is one of the modules
-pub of_forms : (ms : List ModuleTrees) (fault : BuildFault) → IsOfForms ms fault → IsOfModules ms fault
-of_forms ms (Source fault) h = absurd h
-of_forms ms (NotBuilt file at) h = h
-of_forms ms (Refused file at told) h = absurd h
-of_forms ms ReadFault h = absurd h
-of_forms ms Memory h = tt
+pub of_forms : (p : ProjectTrees) (fault : BuildFault) → IsOfForms p.modules fault → IsOfModules p fault
+of_forms p (Source fault) h = absurd h
+of_forms p (NotBuilt file at) h = h
+of_forms p (Refused file at told) h = absurd h
+of_forms p ReadFault h = absurd h
+of_forms p Memory h = tt
 
 -- so is one of their program, where they are built
-pub of_program : (ms : List ModuleTrees) (fault : BuildFault) → AreBuilt ms → IsOfProgram fault → IsOfModules ms fault
-of_program ms (Source fault) built h = absurd h
-of_program ms (NotBuilt file at) built h = absurd h
-of_program ms (Refused file at told) built h = built
-of_program ms ReadFault built h = absurd h
-of_program ms Memory built h = tt
+pub of_program : (p : ProjectTrees) (fault : BuildFault) → AreBuilt p.modules → IsOfProgram p fault → IsOfModules p fault
+of_program p (Source fault) built h = absurd h
+of_program p (NotBuilt file at) built h = absurd h
+of_program p (Refused file at told) built h = (built, h)
+of_program p ReadFault built h = absurd h
+of_program p Memory built h = tt
 
 -- ---- projects
 
@@ -63,7 +62,7 @@ outside_in files dir objects Memory h = tt
 
 -- it holds one that isn't built
 pub modules_in : (files : Told) (dir : List ℕ) (objects : List (List ℕ)) (p : ProjectTrees) (fault : BuildFault) → HoldsProject files dir objects p
-    → HaveFewTables p.modules → IsOfModules p.modules fault → IsCauseIn files dir objects fault
+    → HaveFewTables p.modules → IsOfModules p fault → IsCauseIn files dir objects fault
 modules_in files dir objects p (Source fault) holds few h = absurd h
 modules_in files dir objects p (NotBuilt file at) holds few h = (p, holds, few, h)
 modules_in files dir objects p (Refused file at told) holds few h = (p, holds, few, h)
@@ -84,7 +83,7 @@ unread_text bytes source.ReadFault h = tt
 unread_text bytes source.Memory h = tt
 
 pub modules_text : (bytes : List ℕ) (tree : Node) (fault : BuildFault) → IsModuleTree bytes tree → HaveFewTables (only_module tree).modules
-    → IsOfModules (only_module tree).modules fault → IsCauseOfText bytes fault
+    → IsOfModules (only_module tree) fault → IsCauseOfText bytes fault
 modules_text bytes tree (Source fault) is few h = absurd h
 modules_text bytes tree (NotBuilt file at) is few h = (tree, is, few, h)
 modules_text bytes tree (Refused file at told) is few h = (tree, is, few, h)

@@ -1,11 +1,15 @@
 -- What is so of the trees that the modules which were read list.
-use Rattle.std.proofs.Common.{◌≡◌, ℕ, zero, suc, ◌+◌, ◌<◌, ◌≤◌, inl, inr, List, [], ◌∷◌, Some, None, count_by, get_or, length, min, take, refl, ap, ap₂, sym, ◌∙◌, subst, arith}
+use Rattle.std.proofs.Common.{◌≡◌, ℕ, zero, suc, ◌+◌, ◌<◌, ◌≤◌, inl, inr, List, [], ◌∷◌, Option, Some, None, count_by, get_or, length, min, take, slice_get, true, refl, ap, ap₂, sym, ◌∙◌, subst, arith}
+use Rattle.std.specs.List.{list_any}
+use Rattle.con_terms.specs.declared.place.Place.{Place}
+use Rattle.surface_grammar.specs.Trees.{spell}
 use Rattle.surface_tree.specs.declared.token.Token.{Token}
 use Rattle.unbuilt_forms.specs.Unbuilt.{IsFirstUnbuilt}
 use Rattle.project_sources.specs.Modules.{ModuleTrees, module_file}
 use Rattle.project_sources.specs.View.{ListsModules}
 use Rattle.project_sources.specs.declared.modules.ModuleSource.{ModuleSource}
 use Rattle.site_build.specs.Causes.{AreBuilt, IsUnbuiltAt, tables_in}
+use Rattle.site_build.specs.Refusals.{IsAt, begins_at}
 use Rattle.site_build.specs.Tables.{is_table}
 
 -- ---- tables
@@ -78,3 +82,32 @@ unbuilt_listed (x ∷ ss) zero s file at h is before here name (m ∷ ms) (one, 
     )
 unbuilt_listed (x ∷ ss) (suc i) s file at h is before here name (m ∷ ms) (one, rest) =
     inr (subst (λ (l : List Token). IsFirstUnbuilt l None) one.tree.0 before.0, unbuilt_listed ss i s file at (omega (arith, h)) is before.1 here name ms rest)
+
+-- ---- the files of modules
+
+same_module : (x s : ModuleSource) → ◌≡◌ {A = Option ModuleSource} (Some x) (Some s) → x ≡ s
+same_module x s e = cc e
+
+no_module : (s : ModuleSource) → ◌≡◌ {A = Option ModuleSource} None (Some s) → ⊥
+no_module s e = absurd (cc e)
+
+numbered : (ss : List ModuleSource) (i : ℕ) (s : ModuleSource) (file : List ℕ) (at : ℕ) → slice_get ss i ≡ Some s → file ≡ module_file s.line
+    → list_any (begins_at at) s.tree.leaves ≡ true → (ms : List ModuleTrees) → ListsModules ss ms
+    → (m : ModuleTrees) × (slice_get ms i ≡ Some m) × (file ≡ module_file m.line) × (at ≡ at) × (list_any (begins_at at) (spell m.tree) ≡ true)
+numbered [] i s file at is name begins ms lists = absurd (no_module s is)
+numbered (x ∷ ss) i s file at is name begins [] lists = absurd lists
+numbered (x ∷ ss) zero s file at is name begins (m ∷ ms) (one, rest) =
+    let same : s ≡ x = sym (same_module x s is) in (
+      m,
+      refl,
+      name ∙ ap (λ (y : ModuleSource). module_file y.line) same ∙ ap module_file one.line,
+      refl,
+      subst (λ (l : List Token). list_any (begins_at at) l ≡ true) one.tree.0
+          (subst (λ (y : ModuleSource). list_any (begins_at at) y.tree.leaves ≡ true) same begins),
+    )
+numbered (x ∷ ss) (suc i) s file at is name begins (m ∷ ms) (one, rest) = numbered ss i s file at is name begins ms rest
+
+-- a place in a module that was read is one in the module with its number (for `file_at`)
+pub placed : (ss : List ModuleSource) (place : Place) (s : ModuleSource) (file : List ℕ) → slice_get ss place.file ≡ Some s → file ≡ module_file s.line
+    → list_any (begins_at place.at) s.tree.leaves ≡ true → (ms : List ModuleTrees) → ListsModules ss ms → IsAt ms place file place.at
+placed ss place s file is name begins ms lists = numbered ss place.file s file place.at is name begins ms lists

@@ -59,22 +59,22 @@ one_unbuilt (m ∷ ms) file other at place (inr (none, h)) (inr (none', k)) = on
 many_or_few : (ms : List ModuleTrees) → HaveManyTables ms → HaveFewTables ms → ⊥
 many_or_few ms many few = omega (arith, many, few)
 
--- causes in the same modules
-one_of_modules : (same : SourceFault → SourceFault → Type 0) (ms : List ModuleTrees) (fault other : BuildFault) → IsCauseOf ms fault → IsCauseOf ms other
+-- causes in the same project
+one_of_modules : (same : SourceFault → SourceFault → Type 0) (p : ProjectTrees) (fault other : BuildFault) → IsCauseOf p fault → IsCauseOf p other
     → AreOne same fault other
-one_of_modules same ms (Source fault) other h k = absurd h
-one_of_modules same ms (NotBuilt file at) (Source fault) h k = absurd k
-one_of_modules same ms (NotBuilt file at) (NotBuilt other place) h k = one_unbuilt ms file other at place h k
-one_of_modules same ms (NotBuilt file at) (Refused other place told) h k = built_or_not ms file at h k
-one_of_modules same ms (NotBuilt file at) ReadFault h k = tt
-one_of_modules same ms (NotBuilt file at) Memory h k = tt
-one_of_modules same ms (Refused file at told) (Source fault) h k = absurd k
-one_of_modules same ms (Refused file at told) (NotBuilt other place) h k = built_or_not ms other place k h
-one_of_modules same ms (Refused file at told) (Refused other place again) h k = tt
-one_of_modules same ms (Refused file at told) ReadFault h k = tt
-one_of_modules same ms (Refused file at told) Memory h k = tt
-one_of_modules same ms ReadFault other h k = tt
-one_of_modules same ms Memory other h k = tt
+one_of_modules same p (Source fault) other h k = absurd h
+one_of_modules same p (NotBuilt file at) (Source fault) h k = absurd k
+one_of_modules same p (NotBuilt file at) (NotBuilt other place) h k = one_unbuilt p.modules file other at place h k
+one_of_modules same p (NotBuilt file at) (Refused other place told) h k = built_or_not p.modules file at h k.0
+one_of_modules same p (NotBuilt file at) ReadFault h k = tt
+one_of_modules same p (NotBuilt file at) Memory h k = tt
+one_of_modules same p (Refused file at told) (Source fault) h k = absurd k
+one_of_modules same p (Refused file at told) (NotBuilt other place) h k = built_or_not p.modules other place k h.0
+one_of_modules same p (Refused file at told) (Refused other place again) h k = tt
+one_of_modules same p (Refused file at told) ReadFault h k = tt
+one_of_modules same p (Refused file at told) Memory h k = tt
+one_of_modules same p ReadFault other h k = tt
+one_of_modules same p Memory other h k = tt
 
 -- ---- a module alone
 
@@ -93,10 +93,10 @@ text_taken law bytes tree fault is few (inr (other, is', many, e)) =
     many_or_few (only_module tree).modules (subst (λ (n : Node). HaveManyTables (only_module n).modules) same many) few
 
 text_tree : ModulesHaveOneAnswer → (bytes : List ℕ) (fault other : BuildFault) (tree node : Node) → IsModuleTree bytes tree → IsModuleTree bytes node
-    → IsCauseOf (only_module tree).modules fault → IsCauseOf (only_module node).modules other → AreOne (λ (f g : SourceFault). f ≡ g) fault other
+    → IsCauseOf (only_module tree) fault → IsCauseOf (only_module node) other → AreOne (λ (f g : SourceFault). f ≡ g) fault other
 text_tree law bytes fault other tree node is is' h k =
     let same : node ≡ tree = law.one_tree bytes node tree is' is in
-    one_of_modules (λ (f g : SourceFault). f ≡ g) (only_module tree).modules fault other h (subst (λ (n : Node). IsCauseOf (only_module n).modules other) same k)
+    one_of_modules (λ (f g : SourceFault). f ≡ g) (only_module tree) fault other h (subst (λ (n : Node). IsCauseOf (only_module n) other) same k)
 
 pub one_of_texts : ModulesHaveOneAnswer → TextsHaveOneCause
 one_of_texts law bytes (Source fault) (Source other) h k = text_source law bytes fault other h k
@@ -137,10 +137,10 @@ project_taken one files dir objects p fault holds few (inr (q, holds', many, fil
     many_or_few q.modules many (subst (λ (x : ProjectTrees). HaveFewTables x.modules) same few)
 
 project_modules : FoldersHaveOneAnswer → (files : Told) (dir : List ℕ) (objects : List (List ℕ)) (fault other : BuildFault) (told : SourceFault) (p q : ProjectTrees)
-    → HoldsProject files dir objects p → HoldsProject files dir objects q → IsCauseOf p.modules fault → IsCauseOf q.modules other → AreOne AreOneOrLines fault other
+    → HoldsProject files dir objects p → HoldsProject files dir objects q → IsCauseOf p fault → IsCauseOf q other → AreOne AreOneOrLines fault other
 project_modules one files dir objects fault other told p q holds holds' h k =
     let same : p ≡ q = (one files dir objects p told holds).0 q holds' in
-    one_of_modules AreOneOrLines q.modules fault other (subst (λ (x : ProjectTrees). IsCauseOf x.modules fault) same h) k
+    one_of_modules AreOneOrLines q fault other (subst (λ (x : ProjectTrees). IsCauseOf x fault) same h) k
 
 pub one_of_projects : FoldersHaveOneAnswer → RefusalsHaveOneCause → ProjectsHaveOneCause
 one_of_projects one law files dir objects (Source fault) (Source other) h k = project_source one law files dir objects fault other h k

@@ -1,5 +1,5 @@
 -- Why a project isn't built, as its files tell, and why a module alone isn't.
-use Rattle.std.specs.Prelude.{◌≡◌, ℕ, ◌+◌, ◌<◌, ◌≤◌, ◌⊎◌, List, [], ◌∷◌, codes, count_by, Some, None}
+use Rattle.std.specs.Prelude.{◌≡◌, ℕ, ◌+◌, ◌<◌, ◌≤◌, ◌⊎◌, List, [], ◌∷◌, codes, count_by, string_bytes, Some, None}
 use Rattle.surface_grammar.specs.Trees.{Node, spell}
 use Rattle.ur_outside.specs.Files.{Told}
 use Rattle.ur_parser.specs.Sources.{module_part}
@@ -9,6 +9,7 @@ use Rattle.project_sources.specs.Texts.{HasNoTree, IsModuleTree}
 use Rattle.project_sources.specs.declared.fault.SourceFault.{SourceFault}
 use Rattle.project_sources.specs.declared.fault.SourceFault.TheVariants.{BadProject}
 use Rattle.unbuilt_forms.specs.Unbuilt.{IsFirstUnbuilt}
+use Rattle.site_build.specs.Refusals.{IsRefused}
 use Rattle.site_build.specs.Sources.{only_module}
 use Rattle.site_build.specs.Tables.{is_table, most_tables}
 use Rattle.site_build.specs.declared.fault.BuildFault.{BuildFault}
@@ -38,14 +39,14 @@ IsUnbuiltAt (m ∷ ms) file at =
     ((file ≡ module_file m.line) × IsFirstUnbuilt (spell m.tree) (Some at))
     ⊎ (IsFirstUnbuilt (spell m.tree) None × IsUnbuiltAt ms file at)
 
--- Why modules that were read aren't built: the first of their forms that isn't built yet; or inference or the checker
--- refuses them, of which the cause isn't said here. Want of memory and a failure of the outside have no cause in them.
-abbrev pub IsCauseOf : List ModuleTrees → BuildFault → Type 0
-IsCauseOf ms (Source fault) = ⊥
-IsCauseOf ms (NotBuilt file at) = IsUnbuiltAt ms file at
-IsCauseOf ms (Refused file at told) = AreBuilt ms
-IsCauseOf ms ReadFault = Unit {0}
-IsCauseOf ms Memory = Unit {0}
+-- Why a project that was read isn't built: the first form of its modules that isn't built yet; or they have none, and
+-- inference or the checker refuses them. Want of memory and a failure of the outside have no cause in them.
+abbrev pub IsCauseOf : ProjectTrees → BuildFault → Type 0
+IsCauseOf p (Source fault) = ⊥
+IsCauseOf p (NotBuilt file at) = IsUnbuiltAt p.modules file at
+IsCauseOf p (Refused file at told) = AreBuilt p.modules × IsRefused p file at (string_bytes told)
+IsCauseOf p ReadFault = Unit {0}
+IsCauseOf p Memory = Unit {0}
 
 -- The sources of a project aren't taken: the folder holds none, for the first thing that stands in the way, or one that
 -- declares too many tables, which is told at a line of a project file.
@@ -58,7 +59,7 @@ IsCauseOfSources files dir objects fault =
 -- the folder holds a project that has not too many tables, and its modules aren't built for this
 abbrev pub IsCauseOfModules : Told → List ℕ → List (List ℕ) → BuildFault → Type 0
 IsCauseOfModules files dir objects fault =
-    (p : ProjectTrees) × HoldsProject files dir objects p × HaveFewTables p.modules × IsCauseOf p.modules fault
+    (p : ProjectTrees) × HoldsProject files dir objects p × HaveFewTables p.modules × IsCauseOf p fault
 
 -- Why the project in a folder isn't built.
 abbrev pub IsCauseIn : Told → List ℕ → List (List ℕ) → BuildFault → Type 0
@@ -84,7 +85,7 @@ IsCauseOfFile bytes fault =
 abbrev pub IsCauseOfTree : List ℕ → BuildFault → Type 0
 IsCauseOfTree bytes fault =
     (tree : Node) × IsModuleTree bytes tree × HaveFewTables (only_module tree).modules
-    × IsCauseOf (only_module tree).modules fault
+    × IsCauseOf (only_module tree) fault
 
 -- Why a module alone isn't built.
 abbrev pub IsCauseOfText : List ℕ → BuildFault → Type 0

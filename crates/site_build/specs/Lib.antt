@@ -2,6 +2,8 @@
 pub mod Lines
 -- The program that the sources of a project say.
 pub mod Sources
+-- Why the program of a project is refused.
+pub mod Refusals
 -- How many tables a module declares.
 pub mod Tables
 -- Why a project isn't built.

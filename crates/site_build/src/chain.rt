@@ -1,22 +1,20 @@
 //! From the trees of modules to their explicit program.
-ghost use Rattle.std.specs.Prelude.{◌≡◌, true, map, IfErr, IfOk, IsErrOf};
-ghost use Rattle.core_terms.specs.Lists.{foreigns_view, rules_view};
-ghost use Rattle.core_terms.specs.Trees.{Pg};
+ghost use Rattle.std.specs.Prelude.{◌≡◌, string_bytes, IfErr, IfOk, IsErrOf, List};
 ghost use Rattle.core_terms.specs.View.{program_view};
 ghost use Rattle.core_typing.specs.Accepts.{Accepts};
+ghost use Rattle.core_typing.specs.Tells.{ProgramTells};
 ghost use Rattle.plain_projects.specs.Listed.{AreWhole};
-ghost use Rattle.plain_tree.specs.View.{plain_view};
+ghost use Rattle.project_sources.specs.Modules.{ModuleTrees};
 ghost use Rattle.project_sources.specs.Projects.{ProjectTrees};
-ghost use Rattle.project_sources.specs.View.{ListsProject};
-ghost use Rattle.site_build.specs.Faults.{IsOfModules, IsOfProgram};
+ghost use Rattle.project_sources.specs.View.{ListsModules, ListsProject};
+ghost use Rattle.site_build.specs.Faults.{IsOfElaboration, IsOfModules, IsOfProgram, IsRefusal, IsRefusalAt, IsSourceOf};
 ghost use Rattle.site_build.specs.Sources.{IsProgramOf};
-ghost use Rattle.source_terms.specs.Programs.{is_source as says};
+ghost use Rattle.type_faults.specs.View.{fault_tree};
 
 use crate::forms::are_built;
-use crate::names::numbered_file;
+use crate::names::file_at;
 use crate::{BuildFault, Site};
-use con_terms::place::Place;
-use core_checker::{CheckFault, checked};
+use core_checker::{CheckFault, Refused, checked};
 use core_terms::Program;
 use explicit_text::explicit_text;
 use fault_lines::{Told, told_of_check, told_of_elaboration};
@@ -29,8 +27,7 @@ use std::alloc::{AllocError, Global};
 /// What inference begins with.
 fn source_of(alloc: Global, sources: &Sources) -> Result<Source, AllocError>
     ensures { IfOk result (λ source. (p : ProjectTrees) → ListsProject sources.now p → AreWhole p.modules
-        → (g : Pg) → says source.modules (map plain_view source.trees.items) source.exported (rules_view source.rules)
-        (foreigns_view source.foreign) g ≡ true → IsProgramOf p g) }
+        → IsSourceOf p source) }
 {
     let PlainProject {
         names,
@@ -48,18 +45,17 @@ fn source_of(alloc: Global, sources: &Sources) -> Result<Source, AllocError>
     })
 }
 
-/// The refusal of a told fault.
+/// The refusal of a told fault: at its place, with its text.
 fn refused(alloc: Global, modules: &[ModuleSource], told: Told) -> Result<BuildFault, AllocError>
-    ensures { IfOk result IsOfProgram }
+    ensures told { IfOk result IsRefusal }
+    ensures refused { IfOk result (λ fault. (ms : List ModuleTrees) → ListsModules modules.now ms
+        → IsRefusalAt ms told.place (string_bytes told.text) fault) }
 {
-    let Told {
-        place: Place { file, at },
-        text,
-    } = told;
-    let file = numbered_file(alloc, modules, file)?;
+    let Told { place, text } = told;
+    let file = file_at(alloc, modules, place)?;
     Ok(BuildFault::Refused {
         file,
-        at,
+        at: place.at,
         told: text,
     })
 }
@@ -70,7 +66,9 @@ fn unelaborated(
     modules: &[ModuleSource],
     refusal: &Refusal,
 ) -> Result<BuildFault, AllocError>
-    ensures { IfOk result IsOfProgram }
+    ensures told { IfOk result IsRefusal }
+    ensures refused { IfOk result (λ fault. (ms : List ModuleTrees) → ListsModules modules.now ms
+        → IsOfElaboration ms refusal.now.fault fault) }
 {
     let names = names_of(alloc, modules)?;
     let told = told_of_elaboration(alloc, &refusal.names, &names, &refusal.fault)?;
@@ -83,7 +81,9 @@ fn elaborated<T: Terms + Drop>(
     terms: &T,
     sources: &Sources,
 ) -> Result<Program, BuildFault>
-    ensures refused { IfErr result IsOfProgram }
+    ensures told { IsErrOf result BuildFault.ReadFault → ⊥ }
+    ensures refused { IfErr result (λ fault. (p : ProjectTrees) → ListsProject sources.now p → AreWhole p.modules
+        → IsOfProgram p fault) }
     ensures source { IfOk result (λ g. (p : ProjectTrees) → ListsProject sources.now p → AreWhole p.modules
         → IsProgramOf p (program_view g)) }
 {
@@ -94,19 +94,33 @@ fn elaborated<T: Terms + Drop>(
     }
 }
 
+/// The refusal of a program that the checker doesn't keep.
+fn unchecked(
+    alloc: Global,
+    modules: &[ModuleSource],
+    refusal: &Refused,
+) -> Result<BuildFault, AllocError>
+    ensures told { IfOk result IsRefusal }
+    ensures refused { IfOk result (λ fault. (p : ProjectTrees) → ListsModules modules.now p.modules
+        → IsProgramOf p (program_view refusal.now.program)
+        → ProgramTells (program_view refusal.now.program) (fault_tree refusal.now.fault) → IsOfProgram p fault) }
+{
+    let told = told_of_check(alloc, &refusal.program, &refusal.fault)?;
+    refused(alloc, modules, told)
+}
+
 /// The program, where the checker keeps it.
 fn kept(alloc: Global, modules: &[ModuleSource], program: Program) -> Result<Program, BuildFault>
-    ensures refused { IfErr result IsOfProgram }
+    ensures told { IsErrOf result BuildFault.ReadFault → ⊥ }
+    ensures refused { IfErr result (λ fault. (p : ProjectTrees) → ListsModules modules.now p.modules
+        → IsProgramOf p (program_view program) → IsOfProgram p fault) }
     ensures same { IfOk result (λ p. p ≡ program) }
     ensures accepted { IfOk result (λ p. Accepts (program_view p)) }
 {
     match checked(alloc, program) {
         Ok(program) => Ok(program),
         Err(CheckFault::Memory) => Err(BuildFault::Memory),
-        Err(CheckFault::Refused(refused_program)) => {
-            let told = told_of_check(alloc, &refused_program.program, &refused_program.fault)?;
-            Err(refused(alloc, modules, told)?)
-        }
+        Err(CheckFault::Refused(refusal)) => Err(unchecked(alloc, modules, &refusal)?),
     }
 }
 
@@ -117,8 +131,8 @@ pub(crate) fn site_of<T: Terms + Drop>(
     sources: &Sources,
 ) -> Result<Site, BuildFault>
     ensures told { IsErrOf result BuildFault.ReadFault → ⊥ }
-    ensures refused { IfErr result (λ fault. (p : ProjectTrees) → ListsProject sources.now p
-        → IsOfModules p.modules fault) }
+    ensures refused { IfErr result (λ fault. (p : ProjectTrees) → ListsProject sources.now p → AreWhole p.modules
+        → IsOfModules p fault) }
     ensures accepted { IfOk result (λ s. Accepts (program_view s.program)) }
     ensures source { IfOk result (λ s. (p : ProjectTrees) → ListsProject sources.now p → AreWhole p.modules
         → IsProgramOf p (program_view s.program)) }

@@ -31,8 +31,8 @@ returns-clause-refused g c =
     let (node, is, lists) = c.in_ok-tree.ensures.tree in
     let modules : ListsModules c.as_slice.result.now (only_module node).modules =
     subst (λ (l : List ModuleSource). ListsModules l (only_module node).modules) (sym c.as_slice.ensures.value) (c.in_ok-sources.ensures node lists).modules in
-    where_err c.site_of.result (λ fault. (p : ProjectTrees) → ListsProject c.in_ok-sources.sources p → IsOfModules p.modules fault)
+    where_err c.site_of.result (λ fault. (p : ProjectTrees) → ListsProject c.in_ok-sources.sources p → AreWhole p.modules → IsOfModules p fault)
     (IsCauseOfText c.args.bytes.now)
     (λ fault given. modules_text c.args.bytes.now node fault is (c.in-None.ensures.few (only_module node).modules modules)
-    (given (only_module node) (c.in_ok-sources.ensures node lists)))
+    (given (only_module node) (c.in_ok-sources.ensures node lists) (record { tree = (deepest, is.whole); interface = tt }, tt)))
     c.site_of.ensures.refused
