@@ -1,22 +1,16 @@
 //! Calls: what they begin with, their arguments as they tell their types, and what is left then.
-use call_parts::alone::begin;
-use call_parts::arguments::{
-    Match, New, Refusal, match_all, match_type, new_at, next, put, raise_all,
-};
-use call_parts::calls::{call_of, call_of_term, inputs};
 use call_parts::finish::finish;
-use call_parts::pages::match_page;
-use call_parts::walk::{unstick, walk};
-use con_terms::place::Place;
+use call_parts::walk::walk;
+use call_parts::{
+    Match, New, Refusal, begin, call_of, call_of_term, inputs, match_all, match_page, match_type,
+    new_at, next, put, raise_all, unstick,
+};
+use con_terms::Place;
 use name_scopes::ElabFault;
-use open_terms::env::Env;
-use open_terms::heads::head_of_call;
-use open_terms::memory::on_heap;
-use open_terms::pending::{Call, Input, Outcome};
-use open_terms::want::{Typed, Want};
+use open_terms::{Call, Env, Input, Outcome, Typed, Want, head_of_call, on_heap};
 use plain_tree::{Exp, Items};
 use std::alloc::{AllocError, Global};
-use term_parts::progress::{Part, Progress, Sought, ask, below, settled, term};
+use term_parts::{Part, Progress, Sought, ask, below, settled, term};
 
 /// How often a call goes on at most.
 const ROUNDS: usize = 1_000_000;

@@ -3,3 +3,5 @@
 #![tactic(auto)]
 
 pub mod calls;
+
+pub use calls::{CallAfter, of_call, of_name, run, settle};

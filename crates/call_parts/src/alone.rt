@@ -1,12 +1,9 @@
 //! A call without arguments: its leading implicits are taken from the wanted type.
 use crate::walk::{bind, guard, has_form, implied};
-use con_terms::con::Con;
+use con_terms::Con;
 use core_terms::{ConOrigin, Sigil};
 use name_scopes::ElabFault;
-use open_terms::implied::is_implied;
-use open_terms::pending::Call;
-use open_terms::types::head_of;
-use open_terms::want::Want;
+use open_terms::{Call, Want, head_of, is_implied};
 use std::alloc::{AllocError, Global};
 use std::mem::replace;
 

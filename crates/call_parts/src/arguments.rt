@@ -1,24 +1,16 @@
 //! The arguments of a call: their types matched with those of the parameters, and which comes next.
-use con_terms::con::Con;
-use con_terms::copy::copy_con;
-use con_terms::place::Place;
-use con_terms::size::has_room;
-use con_terms::substitute::shift;
-use con_terms::symbol::Sym;
+use con_terms::{Con, Place, Sym, copy_con, has_room, shift};
 use name_scopes::ElabFault;
-use open_terms::env::Env;
-use open_terms::faults::mismatch;
-use open_terms::memory::on_heap;
-use open_terms::pending::{Argument, Call, Core, Frame, Outcome, Pattern, Pending, Slot, Step};
-use open_terms::want::{Want, boxed_copy, may_grow, whole};
-use row_normal::form::Normal;
+use open_terms::{
+    Argument, Call, Core, Env, Frame, Outcome, Pattern, Pending, Slot, Step, Want, boxed_copy,
+    may_grow, mismatch, on_heap, whole,
+};
+use row_normal::Normal;
 use std::alloc::{AllocError, Global};
 use std::mem::replace;
-use type_faults::fault::Fault;
+use type_faults::Fault;
 use type_makers::symbols;
-use unknowns::fill::{filled, told};
-use unknowns::known::is_known;
-use unknowns::{Apart, FitFault, Found, fit};
+use unknowns::{Apart, FitFault, Found, filled, fit, is_known, told};
 
 /// An argument that was elaborated before.
 pub fn ready<'a>(outcome: Outcome<'a>) -> Argument<'a> {

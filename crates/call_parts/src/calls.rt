@@ -1,15 +1,10 @@
 //! Calls as they begin.
-use con_terms::con::{Con, Pair, Pairs};
-use con_terms::copy::copy_con;
-use con_terms::place::Place;
+use con_terms::{Con, Pair, Pairs, Place, copy_con};
 use core_terms::{Exp, Field, Fields, Form, Sigil};
 use name_scopes::ElabFault;
-use open_terms::env::Env;
-use open_terms::faults::record_of_pairs;
-use open_terms::heads::{Head, node};
-use open_terms::memory::on_heap;
-use open_terms::pending::{Call, Input, Outcome, RecField, done};
-use open_terms::want::Typed;
+use open_terms::{
+    Call, Env, Head, Input, Outcome, RecField, Typed, done, node, on_heap, record_of_pairs,
+};
 use plain_tree::{Item, Items};
 use std::alloc::{AllocError, Global};
 use unknowns::Found;

@@ -1,21 +1,14 @@
 //! The end of a call: what was found is put in, or it is kept as far as it is.
 use crate::arguments::{Refusal, told_result};
-use con_terms::con::Con;
-use con_terms::copy::copy_con;
-use con_terms::place::Place;
+use con_terms::{Con, Place, copy_con};
 use core_terms::{ConOrigin, Exp, Form, Item, Items, Sigil};
 use name_scopes::ElabFault;
-use open_terms::env::Env;
-use open_terms::heads::node;
-use open_terms::implied::implied_term;
-use open_terms::memory::on_heap;
-use open_terms::open_places::open_call;
-use open_terms::pending::{Argument, Call, Core, Outcome, Slot, Step, done, later};
-use open_terms::types::kept;
-use open_terms::want::{Typed, Want, may_grow};
+use open_terms::{
+    Argument, Call, Core, Env, Outcome, Slot, Step, Typed, Want, done, implied_term, kept, later,
+    may_grow, node, on_heap, open_call,
+};
 use std::alloc::{AllocError, Global};
-use unknowns::Found;
-use unknowns::fill::told;
+use unknowns::{Found, told};
 
 /// What was found for the unknown that was bound so many after the first.
 fn found_at(alloc: Global, found: &Found, level: u32, place: Place) -> Result<Con, ElabFault> {

@@ -1,18 +1,12 @@
 //! The parts of a page's type, and the rows of its places.
 use crate::arguments::{Match, Refusal, match_type};
-use con_terms::con::{Con, Cons};
-use con_terms::copy::copy_con;
-use con_terms::kind::Kind;
-use open_terms::memory::on_heap;
-use open_terms::types::reduced;
-use open_terms::want::boxed_copy;
-use row_normal::pieces::{pieces, row_of_pieces_in_order};
+use con_terms::{Con, Cons, Kind, copy_con};
+use open_terms::{boxed_copy, on_heap, reduced};
+use row_normal::pieces::pieces;
+use row_normal::row_of_pieces_in_order;
 use std::alloc::{AllocError, Global};
-use type_makers::symbols;
-use type_makers::types::no_types;
-use unknowns::Found;
-use unknowns::fill::filled;
-use unknowns::known::is_known;
+use type_makers::{no_types, symbols};
+use unknowns::{Found, filled, is_known};
 
 /// What a type of pages is put together of.
 #[derive(Drop)]

@@ -1,20 +1,16 @@
 //! The type of what is called, walked past what the call is applied to.
 use crate::arguments::ready;
-use con_terms::con::Con;
-use con_terms::copy::copy_con;
-use con_terms::kind::Kind;
-use con_terms::place::Place;
+use con_terms::{Con, Kind, Place, copy_con};
 use core_terms::{ConOrigin, Sigil};
 use name_scopes::ElabFault;
-use open_terms::faults::{any_function, any_guarded, any_poly, not_of};
-use open_terms::implied::is_implied;
-use open_terms::memory::{add, on_heap};
-use open_terms::pending::{Argument, Call, Input, Pattern, Slot, Step};
-use open_terms::types::{head_of, put_in};
+use open_terms::{
+    Argument, Call, Input, Pattern, Slot, Step, add, any_function, any_guarded, any_poly, head_of,
+    is_implied, not_of, on_heap, put_in,
+};
 use plain_tree::ConForm;
 use std::alloc::{AllocError, Global};
 use std::mem::replace;
-use unknowns::fill::{lowered, told};
+use unknowns::{lowered, told};
 
 /// How many items a walk passes at most.
 const MOST: usize = 1_000_000;

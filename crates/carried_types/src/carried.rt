@@ -11,12 +11,10 @@ ghost use Rattle.carried_types.specs.Carriers.{AllMarked, AreCarriers, MarkedAne
 ghost use Rattle.carried_types.specs.Filling as filling;
 ghost use Rattle.carried_types.specs.View.{carriers_view};
 
-use con_terms::con::{Con, Cons, Pair, Pairs};
-use con_terms::kind::{Kind, same_kind};
-use con_terms::symbol::Sym;
+use con_terms::{Con, Cons, Kind, Pair, Pairs, Sym, same_kind};
 use core_terms::{Constructor, Constructors, Datatype};
 use judgements::normal_of;
-use match_cover::seen::{Seen, see};
+use match_cover::{Seen, see};
 use std::alloc::{AllocError, Global};
 use type_makers::symbols;
 

@@ -6,12 +6,11 @@ ghost use Rattle.carried_types.specs.Pages as computed;
 ghost use Rattle.carried_types.specs.View.{carried_to, carriers_view};
 
 use crate::carried::{Carriers, can_carry, can_fill};
-use con_terms::con::Con;
-use con_terms::copy::copy_con;
+use con_terms::{Con, copy_con};
 use core_terms::Datatype;
 use judgements::{is_alike, normal_of};
 use std::alloc::{AllocError, Global};
-use type_makers::types::{page_type, transaction_of};
+use type_makers::{page_type, transaction_of};
 
 /// Whether a type is that of actions that give a page.
 pub fn gives_page(alloc: Global, t: &Con) -> Result<bool, AllocError>

@@ -1,17 +1,13 @@
 //! A term, and what follows it from left to right.
 use crate::sides::{left_want, other_link, right_want, two_sides};
-use call_parts::calls::{call_of, operands};
-use con_terms::place::Place;
+use call_parts::{call_of, operands};
+use con_terms::Place;
 use core_terms::BasisName;
 use name_scopes::ElabFault;
-use open_terms::env::Env;
-use open_terms::heads::{of_basis, operator};
-use open_terms::memory::on_heap;
-use open_terms::pending::{Call, Outcome};
-use open_terms::want::{Typed, Want, copy_want};
+use open_terms::{Call, Env, Outcome, Typed, Want, copy_want, of_basis, on_heap, operator};
 use plain_tree::{Exp, Infix, Link, Links};
 use std::alloc::{AllocError, Global};
-use term_parts::progress::{Part, Progress, Sought, ask, below, settled, term};
+use term_parts::{Part, Progress, Sought, ask, below, settled, term};
 
 /// A chain before one of its links.
 #[derive(Drop)]

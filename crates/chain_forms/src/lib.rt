@@ -4,3 +4,5 @@
 
 pub mod chains;
 pub mod sides;
+
+pub use chains::{ChainAfter, of_chain};

@@ -1,20 +1,15 @@
 //! The two sides of an operator that is no call, and the other links of chains.
-use con_terms::con::Con;
-use con_terms::kind::Kind;
-use con_terms::place::Place;
+use con_terms::{Con, Kind, Place};
 use core_terms::{Branch, Exp, Form};
 use name_scopes::{ElabFault, KnownBuilder};
-use open_terms::env::Env;
-use open_terms::heads::{node, operator};
-use open_terms::memory::on_heap;
-use open_terms::pending::{Outcome, done};
-use open_terms::rows::{joined, left_out, projected, row_left_out};
-use open_terms::want::{Typed, Want, boxed_copy, whole};
+use open_terms::{
+    Env, Outcome, Typed, Want, boxed_copy, done, joined, left_out, node, on_heap, operator,
+    projected, row_left_out, whole,
+};
 use plain_tree::{BasisBuilder, Infix, Link};
 use std::alloc::{AllocError, Global};
-use term_parts::binders::{bare_branch, two_branches};
-use term_parts::progress::settled;
-use type_makers::types::bool_type;
+use term_parts::{bare_branch, settled, two_branches};
+use type_makers::bool_type;
 
 /// What is wanted of what stands before a link: nothing yet where it is an operand, else nothing.
 pub fn left_want(link: Option<&Link>) -> Want {

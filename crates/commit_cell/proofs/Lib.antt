@@ -1,4 +1,4 @@
--- Lists, and how often a number stands in them: what the others share.
+-- Lists, and how often a number stands in them (for Moves, Worlds).
 pub mod Lists
 -- How often a number stands among those of the passes (for Moves, Worlds).
 pub mod Numbers

@@ -8,14 +8,12 @@ use crate::leaves::{
     kinds_differ, labelled, map_over, named,
 };
 use con_nodes::MOST;
-use con_terms::con::{Con, Cons, Pair, Pairs};
-use con_terms::kind::{Kind, Kinds, copy_kind, same_kind};
-use con_terms::symbol::SymTable;
+use con_terms::{Con, Cons, Kind, Kinds, Pair, Pairs, SymTable, copy_kind, same_kind};
 use name_scopes::{ElabFault, KnownType, Scope};
 use plain_tree::{Numbers, Path, con as plain};
 use std::alloc::{AllocError, Global};
 use table_rows::Text;
-use type_makers::forms::{empty_row, row_kind};
+use type_makers::{empty_row, row_kind};
 
 /// The constructor of the type level that a constructor of a source is, with its kind.
 ///

@@ -1,15 +1,12 @@
 //! Names, labels, and what their kinds are.
 use con_nodes::left_beside;
-use con_terms::con::Con;
-use con_terms::kind::{Kind, copy_kind};
-use con_terms::place::Place;
-use con_terms::symbol::SymTable;
+use con_terms::{Con, Kind, Place, SymTable, copy_kind};
 use kind_rules::flaw::Differing;
 use name_scopes::{ElabFault, KnownType, Scope, path_text};
 use plain_tree::{Label, Path};
 use std::alloc::{AllocError, Global};
 use type_faults::Fault;
-use type_makers::forms::{arrow_kind, row_kind};
+use type_makers::{arrow_kind, row_kind};
 
 /// A constructor with its kind.
 #[derive(Drop)]

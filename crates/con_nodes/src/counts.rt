@@ -1,7 +1,7 @@
 //! The nodes of constructors.
 
 use crate::kinds::beside_kind;
-use con_terms::con::{Con, Cons, Pair, Pairs};
+use con_terms::{Con, Cons, Pair, Pairs};
 
 /// Constructors that are put together of others have fewer nodes than this.
 pub const MOST: u32 = 100_000;

@@ -3,7 +3,7 @@
 ghost use Rattle.std.specs.Prelude.{◌<◌};
 
 use crate::counts::nodes;
-use con_terms::con::{Con, Cons, Pair, Pairs};
+use con_terms::{Con, Cons, Pair, Pairs};
 
 /// How many nodes the steps of reduction of a constructor may make, if each makes as many as its largest function has.
 const MADE: u32 = 4_000_000;

@@ -1,6 +1,6 @@
 //! The nodes of kinds.
 
-use con_terms::kind::{Kind, Kinds};
+use con_terms::{Kind, Kinds};
 
 /// What is left of so many nodes beside those of a kind; 0 where nothing is.
 #[cycle(beside_kind)]

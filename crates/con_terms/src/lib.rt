@@ -17,6 +17,7 @@ pub mod symbol;
 pub use con::{Con, Cons, Pair, Pairs};
 pub use copy::{copy_con, copy_pairs};
 pub use kind::{Kind, Kinds, copy_kind, same_kind};
+pub use laws::symbols_are_texts;
 pub use place::Place;
 pub use rebuild::Replace;
 pub use size::{BINDERS, fits, has_room};

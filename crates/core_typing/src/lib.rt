@@ -9,3 +9,4 @@ pub mod examples;
 pub mod laws;
 
 pub use accepted::Accepted;
+pub use laws::what_is_found_is_accepted;

@@ -1,4 +1,4 @@
--- What a listing leaves on the stack.
+-- What a listing leaves on the stack, tree by tree (for `plain`, `plain_interface`).
 pub mod Listed
--- Repetitions, tree by tree.
+-- Repetitions and the parts of rules, one tree after another (for `repeated`, `parts`).
 pub mod Repeated

@@ -4,7 +4,7 @@ ghost use Rattle.std.specs.Prelude.{◌≡◌, ◌∷◌, [], IfOk, Result};
 ghost use Rattle.con_terms.specs.View.{kind_tree};
 ghost use Rattle.plain_tree.specs.ConView.{con_tree};
 
-use con_terms::kind::Kind;
+use con_terms::Kind;
 use plain_tree::Con;
 use std::alloc::{AllocError, Global};
 

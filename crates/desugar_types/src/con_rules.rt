@@ -9,7 +9,7 @@ use crate::constructors::{
     con_primary, con_product, con_record, con_row, con_sum, con_wild,
 };
 use crate::kinds::{a_kind, kind_row, kind_term, kind_tuple};
-use con_terms::kind::Kind;
+use con_terms::Kind;
 use desugar_values::{Meaning, Meanings};
 use std::alloc::{AllocError, Global};
 use surface_grammar::{ConRule, KindRule};

@@ -8,9 +8,8 @@ ghost use Rattle.desugar_values.specs.View.{meaning_tree, meanings_from, meaning
 ghost use Rattle.desugar_types.specs.Kinds.{kind_arrow, kind_components, kind_times, kinds_of, row_kind_value, term_value, tuple_value};
 
 use crate::boxes::{both, boxed_kind, two_of};
-use con_terms::kind::{Kind, Kinds};
-use desugar_values::parts::{kind_of, maybe_kind_of};
-use desugar_values::{Meaning, Meanings};
+use con_terms::{Kind, Kinds};
+use desugar_values::{Meaning, Meanings, kind_of, maybe_kind_of};
 use std::alloc::{AllocError, Global};
 use std::collections::VecDeque;
 

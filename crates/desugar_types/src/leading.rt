@@ -4,8 +4,7 @@ ghost use Rattle.desugar_values.specs.Parts.{first, start_of, word_of};
 ghost use Rattle.desugar_values.specs.View.{meaning_tree, meanings_tree};
 ghost use Rattle.desugar_types.specs.Leading.{leading};
 
-use desugar_values::parts::start_of;
-use desugar_values::{Meaning, Meanings};
+use desugar_values::{Meaning, Meanings, start_of};
 use surface_tree::Kind;
 
 /// The kind of the word that the tree is.

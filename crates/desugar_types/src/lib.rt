@@ -15,3 +15,7 @@ pub mod paths;
 pub mod patterns;
 pub mod rows;
 pub mod tails;
+
+pub use con_rules::{build_con, build_kind};
+pub use parameters::args_start;
+pub use pat_rules::build_pat;

@@ -6,9 +6,7 @@ ghost use Rattle.desugar_values.specs.View.{meaning_tree, meanings_from};
 ghost use Rattle.desugar_types.specs.Lists.{component_of, components_of, cons_of, numbers_of, places_of};
 
 use crate::boxes::one_of;
-use desugar_values::Meaning;
-use desugar_values::parts::{con_of, number, start_of, word_of};
-use desugar_values::words::component;
+use desugar_values::{Meaning, component, con_of, number, start_of, word_of};
 use plain_tree::{Con, ConField, Numbers, Places};
 use std::alloc::{AllocError, Global};
 use std::collections::VecDeque;

@@ -8,10 +8,8 @@ ghost use Rattle.desugar_types.specs.Parameters.{arg_bracket, arg_from, arg_lowe
 use crate::boxes::one_of;
 use crate::leading::{first_start, leading};
 use crate::tails::short_tails;
-use con_terms::kind::Kind;
-use desugar_values::parts::{group_of, named, start_of};
-use desugar_values::words::bare;
-use desugar_values::{Meaning, Meanings};
+use con_terms::Kind;
+use desugar_values::{Meaning, Meanings, bare, group_of, named, start_of};
 use plain_tree::{Arg, Args, BasisBuilder, Builder, Con, ConForm, Pat, PatForm, Word};
 use std::alloc::{AllocError, Global};
 use surface_tree::{Kind as TokenKind, Token};

@@ -8,9 +8,7 @@ ghost use Rattle.desugar_types.specs.PatRecords.{con_at, field_from, field_named
 
 use crate::leading::leading;
 use crate::patterns::pattern_at;
-use desugar_values::parts::group_of;
-use desugar_values::words::field_name;
-use desugar_values::{Meaning, Meanings};
+use desugar_values::{Meaning, Meanings, field_name, group_of};
 use plain_tree::{Con, PatField, PatFields, PatForm};
 use std::alloc::{AllocError, Global};
 use surface_tree::Kind;

@@ -3,9 +3,7 @@ ghost use Rattle.std.specs.Prelude.{◌≡◌, ◌++◌, IfOk};
 ghost use Rattle.desugar_values.specs.View.{meanings_tree};
 ghost use Rattle.desugar_types.specs.Paths.{path_of, within};
 
-use desugar_values::Meanings;
-use desugar_values::parts::characters;
-use desugar_values::words::modules;
+use desugar_values::{Meanings, characters, modules};
 use plain_tree::{Modules, Path};
 use std::alloc::{AllocError, Global};
 use surface_tree::Token;

@@ -6,9 +6,7 @@ ghost use Rattle.desugar_types.specs.Patterns.{closed, component_field, componen
 
 use crate::boxes::two_of;
 use crate::leading::leading;
-use desugar_values::parts::{characters, number, pat_of, start_of, word_of};
-use desugar_values::words::component;
-use desugar_values::{Meaning, Meanings};
+use desugar_values::{Meaning, Meanings, characters, component, number, pat_of, start_of, word_of};
 use plain_tree::{BasisBuilder, Builder, Modules, Pat, PatField, PatFields, PatForm, Path};
 use std::alloc::{AllocError, Global};
 use surface_tree::Kind;

@@ -5,9 +5,7 @@ ghost use Rattle.desugar_values.specs.View.{meaning_tree, meanings_tree};
 ghost use Rattle.desugar_types.specs.Rows.{field_at, field_more, field_types, fields_more, row_fields, row_more, row_with, rows_more, types_with, value_or_unit};
 
 use crate::boxes::one_of;
-use desugar_values::parts::{con_of, group_of};
-use desugar_values::words::field_name;
-use desugar_values::{Meaning, Meanings};
+use desugar_values::{Meaning, Meanings, con_of, field_name, group_of};
 use plain_tree::{Con, ConField, ConFields, ConForm};
 use std::alloc::{AllocError, Global};
 

@@ -7,8 +7,7 @@ ghost use Rattle.desugar_types.specs.Tails.{applied, arrow, joined, more_tails, 
 
 use crate::boxes::{both, boxed_con, two_of};
 use crate::lists::{add_components, component_of, some_cons, some_numbers};
-use desugar_values::Meanings;
-use desugar_values::words::component;
+use desugar_values::{Meanings, component};
 use plain_tree::{Con, ConField, ConFields, ConForm, Cons, Places};
 use std::alloc::{AllocError, Global};
 

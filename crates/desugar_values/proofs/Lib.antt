@@ -1,2 +1,2 @@
--- Lists of meanings, one part after another.
+-- Lists of meanings, one part after another (for `push`).
 pub mod Lists

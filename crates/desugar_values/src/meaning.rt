@@ -1,5 +1,5 @@
 //! What a tree of the grammar stands for.
-use con_terms::kind::Kind;
+use con_terms::Kind;
 use plain_tree::{Con, Exp, Node, Pat};
 use std::collections::VecDeque;
 use surface_tree::Token;

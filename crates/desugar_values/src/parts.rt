@@ -9,7 +9,7 @@ ghost use Rattle.desugar_values.specs.Parts.{behind, characters, con_of, exp_of,
 ghost use Rattle.desugar_values.specs.View.{meaning_tree, meanings_from, meanings_tree};
 
 use crate::meaning::{Meaning, Meanings};
-use con_terms::kind::Kind;
+use con_terms::Kind;
 use plain_tree::{Basis, Con, ConForm, Exp, Form, Pat, PatForm, Word};
 use std::alloc::{AllocError, Global};
 use std::collections::VecDeque;

@@ -2,7 +2,7 @@
 
 ghost use Rattle.std.specs.Prelude.{◌≡◌};
 
-use con_terms::con::Con;
+use con_terms::Con;
 use std::alloc::AllocError;
 use std::fmt;
 use thiserror::Error;

@@ -7,11 +7,8 @@ ghost use Rattle.con_terms.specs.View.{con_tree};
 ghost use Rattle.disjoint_prover.specs.View.{sides_tree};
 ghost use Rattle.row_normal.specs.View.{normal_tree};
 
-use con_terms::con::Con;
-use con_terms::copy::copy_con;
-use con_terms::size::has_room;
-use con_terms::substitute::shift;
-use row_normal::form::Normal;
+use con_terms::{Con, copy_con, has_room, shift};
+use row_normal::Normal;
 use std::alloc::{AllocError, Global};
 
 /// The two sides of a guard, as normal forms.

@@ -10,10 +10,8 @@ ghost use Rattle.row_normal.specs.View.{normal_tree};
 
 use crate::fault::{DisjointFault, Pieces};
 use crate::guards::{Guards, Sides};
-use con_terms::con::{Con, Pairs};
-use con_terms::copy::copy_con;
-use row_normal::form::Normal;
-use row_normal::same::same_con;
+use con_terms::{Con, Pairs, copy_con};
+use row_normal::{Normal, same_con};
 use std::alloc::Global;
 
 /// Whether two rows are apart, under these guards.

@@ -7,8 +7,7 @@ use crate::rows::{print_field_name, print_row, print_row_field};
 use crate::tasks::{
     ConTask, Leaf, NameTask, Task, Tasks, argument_kind, behind, con, kind, name, word,
 };
-use con_terms::con::{Con, Cons};
-use con_terms::kind::Kind;
+use con_terms::{Con, Cons, Kind};
 use std::alloc::AllocError;
 
 /// Anything may stand here.

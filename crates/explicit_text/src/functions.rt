@@ -3,9 +3,7 @@ use crate::cons::SUM as CON_SUM;
 use crate::pats::print_parameter;
 use crate::tasks::{Leaf, Task, Tasks, con, kind, symbol, term, word};
 use crate::terms::WHOLE;
-use con_terms::con::Con;
-use con_terms::kind::Kind;
-use con_terms::symbol::Sym;
+use con_terms::{Con, Kind, Sym};
 use core_terms::{Exp, Pat};
 use std::alloc::AllocError;
 

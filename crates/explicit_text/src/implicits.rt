@@ -1,7 +1,6 @@
 //! Which values have implicit parameters: constructors, guards, folders or instances that a call leaves out.
 use crate::known::Known;
-use con_terms::con::Con;
-use con_terms::symbol::Sym;
+use con_terms::{Con, Sym};
 use core_terms::BasisName;
 use type_makers::symbols;
 

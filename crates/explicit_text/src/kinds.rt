@@ -1,6 +1,6 @@
 //! Kinds.
 use crate::tasks::{Tasks, argument_kind, behind, kind, word};
-use con_terms::kind::{Kind, Kinds};
+use con_terms::{Kind, Kinds};
 use std::alloc::AllocError;
 
 /// Prints the kind of tuples.

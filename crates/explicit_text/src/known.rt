@@ -1,7 +1,6 @@
 //! What a program's numbers and symbols stand for.
 use crate::implicits::has_implicits;
-use con_terms::con::Con;
-use con_terms::symbol::Sym;
+use con_terms::{Con, Sym};
 use core_terms::{Datatype, Decl, Folders, Foreigns, Named, NamedList, Program};
 use std::alloc::{AllocError, Global};
 use table_rows::{Text, Texts};

@@ -2,7 +2,7 @@
 use crate::cons::{APPLIED as CON_APPLIED, SUM as CON_SUM, WHOLE as CON_WHOLE};
 use crate::tasks::{Leaf, Task, Tasks, TermTask, con, more, term, word};
 use crate::terms::{PIECE, WHOLE};
-use con_terms::con::Con;
+use con_terms::Con;
 use core_terms::{Attribute, Element, Form, Literal, Node};
 use std::alloc::AllocError;
 

@@ -7,10 +7,9 @@ use crate::output::Output;
 use crate::printer::Style;
 use crate::scope::Scope;
 use crate::tasks::NameTask;
-use con_terms::symbol::Sym;
+use con_terms::Sym;
 use std::alloc::AllocError;
-use type_makers::by_name::value_text;
-use type_makers::symbols;
+use type_makers::{symbols, value_text};
 
 /// One of two names of a datatype's constructors, by its place.
 fn one_of(place: u32, first: Sym, second: Sym) -> Sym {

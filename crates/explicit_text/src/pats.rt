@@ -1,8 +1,7 @@
 //! Patterns. What they bind is in scope from where it is printed.
 use crate::cons::WHOLE;
 use crate::tasks::{Leaf, NameTask, Task, Tasks, behind, con, field_name, name, pat, symbol, word};
-use con_terms::con::Con;
-use con_terms::symbol::Sym;
+use con_terms::{Con, Sym};
 use core_terms::{Pat, PatField, PatFields, PatForm};
 use std::alloc::AllocError;
 

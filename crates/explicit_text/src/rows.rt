@@ -3,7 +3,7 @@ use crate::cons::{PIECE, WHOLE};
 use crate::known::Known;
 use crate::printer::Style;
 use crate::tasks::{ConTask, Task, Tasks, behind, con, field_name, symbol, word};
-use con_terms::con::{Con, Pair, Pairs};
+use con_terms::{Con, Pair, Pairs};
 use std::alloc::{AllocError, Global};
 
 /// The name of a field, where it is a literal one.

@@ -1,9 +1,7 @@
 //! The names that are in scope where the text ends.
 use crate::implicits::has_implicits;
 use crate::known::Known;
-use con_terms::con::Con;
-use con_terms::kind::Kind;
-use con_terms::symbol::Sym;
+use con_terms::{Con, Kind, Sym};
 use std::alloc::{AllocError, Global};
 use table_rows::Text;
 

@@ -1,7 +1,5 @@
 //! What is still to be printed.
-use con_terms::con::{Con, Pair};
-use con_terms::kind::Kind;
-use con_terms::symbol::Sym;
+use con_terms::{Con, Kind, Pair, Sym};
 use core_terms::{Attribute, BasisName, Branch, Exp, Item, Local, Named, Node, Pat};
 use std::alloc::{AllocError, Global};
 

@@ -10,7 +10,7 @@ use crate::rows::print_row_names;
 use crate::tasks::{
     Leaf, NameTask, Task, Tasks, TermTask, behind, con, field_name, name, term, word,
 };
-use con_terms::con::Con;
+use con_terms::Con;
 use core_terms::{Branch, Branches, Exp, Field, Fields, Form, Item, Items};
 use std::alloc::AllocError;
 

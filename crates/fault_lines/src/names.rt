@@ -1,5 +1,5 @@
 //! Names that aren't bound, or are declared twice.
-use con_terms::kind::Kind;
+use con_terms::Kind;
 use explicit_text::names::builder;
 use explicit_text::tasks::argument_kind;
 use explicit_text::{Output, Printer, Style, Tasks, run};

@@ -1,6 +1,5 @@
 //! Shapes of values, as patterns of these.
-use con_terms::con::Con;
-use con_terms::symbol::Sym;
+use con_terms::{Con, Sym};
 use explicit_text::names::builder;
 use explicit_text::tasks::field_name;
 use explicit_text::{Output, Printer, Style, Tasks, run};

@@ -1,4 +1,5 @@
--- What tells the raced rules apart, found by scans over tokens. Behind each file: the public clause for which it serves.
+-- What tells the raced rules apart, found by scans over tokens.
+-- Behind each file: the public clause for which it serves.
 -- `laws.one_whole_tree`: the scan for `<-`
 pub mod Scan
 -- `laws.one_whole_tree`: what it finds in a tree

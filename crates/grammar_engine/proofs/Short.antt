@@ -1,4 +1,5 @@
--- A short tree for each form, by which every state of reading begins a whole tree. Behind each file: the public clause for which it serves.
+-- A short tree for each form, by which every state of reading begins a whole tree.
+-- Behind each file: the public clause for which it serves.
 -- `read_part`: `allowed`: the table of short trees
 pub mod Shortest
 -- `read_part`: `allowed`: they may stand behind each other
@@ -9,5 +10,5 @@ pub mod Sound
 pub mod Low
 -- `read_part`: `allowed`: they fit
 pub mod Filling
--- `read_whole`: `allowed`
+-- `read_whole`: `allowed`: from the parts of a text to the whole text
 pub mod Whole

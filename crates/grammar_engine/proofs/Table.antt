@@ -3,11 +3,11 @@
 pub mod Ranks
 -- `laws.one_token_decides`: what is computed, over the words of each form
 pub mod ByWords
--- `laws.one_token_decides`; `choose`
+-- `laws.one_token_decides`; `choose`: the laws of the table, computed, and what they say
 pub mod Decided
--- `choose`: `chosen`
+-- `choose`: `chosen`: a rule of the form that the token begins may be chosen
 pub mod Chosen
--- `choose`: `none`
+-- `choose`: `none`: a token that begins no rule of a form doesn't begin the form
 pub mod NoneBegins
 -- `read_part`: `sole`, `ends`; `least_room` is no more than each tree has
 pub mod Least

@@ -13,9 +13,8 @@ ghost use Rattle.grammar_engine.specs.Rooms.{least_of};
 use crate::tokens::{copy_token, kind_at, same_name};
 use crate::{Stop, Want, Wants};
 use std::alloc::{AllocError, Global};
-use surface_grammar::sides::is_tag;
 use surface_grammar::words::accepts;
-use surface_grammar::{ConRule, ExpRule, Form, Mark, Part, Rule, SqlRule, Tree};
+use surface_grammar::{ConRule, ExpRule, Form, Mark, Part, Rule, SqlRule, Tree, is_tag};
 use surface_tree::{Content, Kind, Tokens};
 
 /// How far reading has come: the place of the next token, what is still to be read, the tree so

@@ -1,8 +1,7 @@
 //! Trees that are handed in.
 ghost use Rattle.std.specs.Prelude.{◌≡◌, ◌++◌, OnOk};
 
-use grammar_engine::Want;
-use grammar_engine::tokens::copy_token;
+use grammar_engine::{Want, copy_token};
 use std::alloc::{AllocError, Global};
 use surface_grammar::Tree;
 

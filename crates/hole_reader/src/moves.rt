@@ -10,10 +10,7 @@ ghost use Rattle.grammar_engine.specs.Stuck.{MeetsBlocked};
 ghost use Rattle.hole_reader.specs.Progress.{Counted, Looked};
 ghost use Rattle.hole_reader.specs.Refuses.{RoomFor};
 
-use grammar_engine::machine::choose;
-use grammar_engine::read::is_splice;
-use grammar_engine::tokens::kind_at;
-use grammar_engine::{Machine, Stop, Want};
+use grammar_engine::{Machine, Stop, Want, choose, is_splice, kind_at};
 use std::alloc::Global;
 use surface_grammar::{Form, Part, Rule, SqlRule};
 use surface_tree::Tokens;

@@ -3,9 +3,7 @@ ghost use Rattle.std.specs.Prelude.{◌≡◌, IfOk};
 ghost use Rattle.con_terms.specs.Substitution.{shift as shifted};
 ghost use Rattle.con_terms.specs.View.{con_tree};
 
-use con_terms::con::Con;
-use con_terms::size::has_room;
-use con_terms::substitute::shift;
+use con_terms::{Con, has_room, shift};
 use std::alloc::{AllocError, Global};
 
 /// What binders of constructors may nest below.

@@ -14,12 +14,10 @@ ghost use Rattle.row_normal.specs.SameTree.{cn_eq};
 
 use crate::at::At;
 use crate::types::{head_of, steps_of};
-use con_terms::con::{Con, Cons, Pair, Pairs};
-use con_terms::kind::{Kind, same_kind};
-use con_terms::symbol::Sym;
+use con_terms::{Con, Cons, Kind, Pair, Pairs, Sym, same_kind};
 use core_terms::Program;
 use row_normal::pieces::pieces;
-use row_normal::same::same_con;
+use row_normal::same_con;
 use std::alloc::{AllocError, Global};
 
 /// Whether two fields have one name and one value.

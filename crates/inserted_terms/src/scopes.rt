@@ -7,9 +7,7 @@ ghost use Rattle.inserted_terms.specs.Inside as inside;
 ghost use Rattle.inserted_terms.specs.View.{at_view};
 
 use crate::at::At;
-use con_terms::con::Con;
-use con_terms::copy::copy_con;
-use con_terms::symbol::Sym;
+use con_terms::{Con, Sym, copy_con};
 use core_terms::{Named, NamedList, Pat, PatField, PatFields, PatForm};
 use judgements::{Locals, with_local};
 use source_names::Here;

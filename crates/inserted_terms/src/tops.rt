@@ -5,7 +5,7 @@ ghost use Rattle.inserted_terms.specs.Values.{are_plain, type_of_value};
 ghost use Rattle.std.proofs.Props.{props};
 
 use crate::values::{TypedValue, typed_value};
-use con_terms::con::Con;
+use con_terms::Con;
 use std::alloc::{AllocError, Global};
 
 /// The top-level values by their numbers, and whether it is known that none is an instance.

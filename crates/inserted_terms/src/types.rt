@@ -5,11 +5,11 @@ ghost use Rattle.core_terms.specs.View.{maybe_con};
 ghost use Rattle.guided_terms.specs.Forms as forms;
 ghost use Rattle.inserted_terms.specs.Asked as asked;
 
-use con_terms::con::Con;
+use con_terms::Con;
 use judgements::put;
 use kind_rules::compare::comparison_fuel;
-use row_normal::normal::NormalFault;
-use row_normal::written::{reduce, reduce_head};
+use row_normal::written::reduce;
+use row_normal::{NormalFault, reduce_head};
 use std::alloc::{AllocError, Global};
 
 /// What steps leave of a type as soon as its form is known; none where it is too large.

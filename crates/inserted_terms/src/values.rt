@@ -6,9 +6,7 @@ ghost use Rattle.core_terms.specs.View.{maybe_con};
 ghost use Rattle.guided_terms.specs.Implied as implied;
 ghost use Rattle.inserted_terms.specs.Forms as forms;
 
-use con_terms::con::Con;
-use con_terms::copy::copy_con;
-use con_terms::symbol::Sym;
+use con_terms::{Con, Sym, copy_con};
 use core_terms::BasisName;
 use judgements::normal_of;
 use std::alloc::{AllocError, Global};

@@ -3,7 +3,7 @@ ghost use Rattle.std.specs.Prelude.{◌≡◌, ◌++◌, IfOk, OnOk};
 ghost use Rattle.core_terms.specs.View.{symbols_view};
 ghost use Rattle.judgements.specs.View.{called_view};
 
-use con_terms::symbol::Sym;
+use con_terms::Sym;
 use core_terms::Symbols;
 use std::alloc::{AllocError, Global};
 use std::rc::Rc;

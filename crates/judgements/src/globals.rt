@@ -7,9 +7,7 @@ ghost use Rattle.core_terms.specs.View.{constructor_view, datatype_view, folder_
 ghost use Rattle.core_typing.specs.Scopes.{folder_of};
 ghost use Rattle.judgements.specs.View.{maybe_symbol};
 
-use con_terms::con::Con;
-use con_terms::kind::{Kind, same_kind};
-use con_terms::symbol::Sym;
+use con_terms::{Con, Kind, Sym, same_kind};
 use core_terms::{Constructor, Datatype, FolderName};
 
 /// The types of the top-level values by their numbers, the datatypes, the folders, and how many foreign effects there

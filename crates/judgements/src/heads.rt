@@ -12,9 +12,7 @@ ghost use Rattle.type_faults.specs.View.{fault_tree, maybe_fault};
 use crate::called::names_called;
 use crate::globals::Globals;
 use crate::scope::Here;
-use con_terms::con::{Con, Pairs};
-use con_terms::kind::Kind;
-use con_terms::place::Place;
+use con_terms::{Con, Kind, Pairs, Place};
 use std::alloc::{AllocError, Global};
 use type_faults::{Fault, mismatch};
 

@@ -8,7 +8,7 @@ ghost use Rattle.told_faults.specs.Computed as computed;
 ghost use Rattle.type_faults.specs.View.{fault_tree};
 
 use crate::locals::Locals;
-use con_terms::con::Con;
+use con_terms::Con;
 use std::rc::Rc;
 use type_faults::Fault;
 

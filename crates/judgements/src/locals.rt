@@ -5,9 +5,7 @@ ghost use Rattle.con_terms.specs.View.{con_tree};
 ghost use Rattle.core_terms.specs.View.{maybe_con};
 ghost use Rattle.judgements.specs.View.{locals_view};
 
-use con_terms::con::Con;
-use con_terms::size::has_room;
-use con_terms::substitute::shift;
+use con_terms::{Con, has_room, shift};
 use std::alloc::{AllocError, Global};
 use std::rc::Rc;
 

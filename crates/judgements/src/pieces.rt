@@ -8,11 +8,9 @@ ghost use Rattle.judgements.specs.Pieces.{leave_one as one_left, take_one as one
 ghost use Rattle.judgements.specs.View.{cons_view, leaving_tree, maybe_cons, maybe_taken, taking_tree};
 ghost use Rattle.row_normal.specs.Ordered.{glued, joined, ordered, ordered_pieces};
 
-use con_terms::con::{Con, Cons, Pair, Pairs};
-use con_terms::copy::copy_con;
-use con_terms::kind::{Kind, same_kind};
-use row_normal::pieces::{pieces, row_of_pieces_in_order};
-use row_normal::same::same_con;
+use con_terms::{Con, Cons, Kind, Pair, Pairs, copy_con, same_kind};
+use row_normal::pieces::pieces;
+use row_normal::{row_of_pieces_in_order, same_con};
 use std::alloc::{AllocError, Global};
 
 /// The value of a field, and the other pieces in their order.

@@ -11,11 +11,9 @@ use crate::called::Called;
 use crate::compare::copied;
 use crate::globals::Globals;
 use crate::locals::{Locals, look_up};
-use con_terms::con::Con;
-use con_terms::kind::Kind;
-use con_terms::symbol::Sym;
+use con_terms::{Con, Kind, Sym};
 use kind_rules::scope::Scope;
-use row_normal::form::Normal;
+use row_normal::Normal;
 use std::alloc::{AllocError, Global};
 use std::rc::Rc;
 

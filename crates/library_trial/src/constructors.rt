@@ -1,10 +1,5 @@
 //! Symbols and constructors: what the clauses do not say, that memory is enough, and how deep recursion goes.
-use con_terms::con::Con;
-use con_terms::copy::copy_con;
-use con_terms::kind::Kind;
-use con_terms::size::{fits, has_room};
-use con_terms::substitute::{shift, subst};
-use con_terms::symbol::SymTable;
+use con_terms::{Con, Kind, SymTable, copy_con, fits, has_room, shift, subst};
 use std::alloc::{AllocError, Global};
 
 /// `$c`

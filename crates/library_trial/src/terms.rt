@@ -1,7 +1,6 @@
 //! Terms as deep as they are built.
-use con_terms::place::Place;
-use core_terms::exp::{Form, Sigil};
-use core_terms::{Exp, Item, Items};
+use con_terms::Place;
+use core_terms::{Exp, Form, Item, Items, Sigil};
 use std::alloc::{AllocError, Global};
 
 /// The term `7` at this byte.

@@ -1,7 +1,6 @@
 //! Texts, lists, and values as they travel in links: that memory serves for long ones, and that copies keep the order.
 use std::alloc::{AllocError, Global};
-use table_rows::wire::copy_wires;
-use table_rows::{Bytes, Text, Texts, Wire, Wires};
+use table_rows::{Bytes, Text, Texts, Wire, Wires, copy_wires};
 
 /// A text of characters and a text behind it, kept in a list.
 pub fn texts_keep_their_bytes(alloc: Global) -> Result<bool, AllocError> {

@@ -13,13 +13,12 @@ use crate::judged::Judgements;
 use crate::links::{LinkFault, link_fault};
 use crate::places::{attribute_name, attribute_place, attribute_term, term_place};
 use carried_types::Carriers;
-use con_terms::con::Con;
-use con_terms::place::Place;
+use con_terms::{Con, Place};
 use core_terms::{AttrName, Attribute, Attributes, TagName};
 use judgements::{Globals, Here, copied, wants};
 use std::alloc::{AllocError, Global};
 use type_faults::{Fault, Name, Twice, first};
-use type_makers::tags::attribute_type;
+use type_makers::attribute_type;
 
 /// Whether all attributes are found, and what is told of them. Contracts see it as `attributes_found_tree`.
 #[derive(Drop)]

@@ -13,14 +13,12 @@ use crate::judged::Judgements;
 use crate::nodes::{NodesFound, nodes_found};
 use crate::places::{node_place, node_term};
 use crate::standing::{Around, field_row_of};
-use con_terms::con::Con;
-use con_terms::place::Place;
+use con_terms::{Con, Place};
 use core_terms::{BasisName, Exp, Form, InputName, Node, Nodes};
 use judgements::{Globals, Here, normal_of, other_form};
 use std::alloc::{AllocError, Global};
 use type_faults::{Fault, first};
-use type_makers::tags::{Standing, TagSort, context_row};
-use type_makers::types::{bool_type, no_types, string_type, unit_type};
+use type_makers::{Standing, TagSort, bool_type, context_row, no_types, string_type, unit_type};
 
 /// A type that isn't this one, which has no values of its own unless this one is such.
 fn other_than_unit(alloc: Global, n: &Con) -> Result<Con, AllocError>

@@ -17,14 +17,12 @@ use crate::judged::{Judgements, is_silent, told_of};
 use crate::nodes::NodesFound;
 use crate::standing::{Around, Position, is_input, name_told, rows_told, stands_by};
 use carried_types::{Carriers, carriers_of};
-use con_terms::con::Con;
-use con_terms::place::Place;
+use con_terms::{Con, Place};
 use core_terms::{AttrName, Attributes, Element, InputName, Nodes, TagName};
 use judgements::{Globals, Here, Judged, copied};
 use std::alloc::{AllocError, Global};
 use type_faults::{Fault, first};
-use type_makers::tags::{TagSort, sort_of, stands};
-use type_makers::types::xml_of;
+use type_makers::{TagSort, sort_of, stands, xml_of};
 
 /// An element's tag.
 fn tag_of(e: &Element) -> TagName

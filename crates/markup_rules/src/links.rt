@@ -8,7 +8,7 @@ ghost use Rattle.markup_rules.specs.Links as computed;
 ghost use Rattle.markup_rules.specs.View.{call_view, lack_view, link_view};
 
 use carried_types::{CarriedTo, Carriers, can_fill, carried_behind, sends_form, shows_page};
-use con_terms::con::Con;
+use con_terms::Con;
 use core_terms::{Datatype, Exp, Form, Item, Items};
 use judgements::{Globals, is_alike, normal_of};
 use std::alloc::{AllocError, Global};

@@ -12,16 +12,13 @@ ghost use Rattle.type_faults.specs.View.{maybe_fault};
 
 use crate::judged::{Judgements, is_silent};
 use crate::places::{node_fills, node_place};
-use con_terms::con::Con;
-use con_terms::kind::Kind;
-use con_terms::place::Place;
+use con_terms::{Con, Kind, Place};
 use core_terms::{Node, Nodes};
 use judgements::{Globals, Here, copied, kind_flaw, meets, wants};
 use row_normal::ordered;
 use std::alloc::{AllocError, Global};
 use type_faults::{Fault, first};
-use type_makers::forms::{joined, row_kind};
-use type_makers::types::{no_types, xml_of};
+use type_makers::{joined, no_types, row_kind, xml_of};
 
 /// What is told of nodes, and the fields that they fill, where all of them are found. Contracts see it as
 /// `nodes_found_tree`.

@@ -5,8 +5,7 @@ ghost use Rattle.core_terms.specs.Lists.{attribute_tree, node_tree};
 ghost use Rattle.core_terms.specs.View.{exp_tree};
 ghost use Rattle.core_typing.specs.Own.{place_of};
 
-use con_terms::con::Con;
-use con_terms::place::Place;
+use con_terms::{Con, Place};
 use core_terms::{AttrName, Attribute, Exp, Node};
 
 /// Where a term stands.

@@ -8,16 +8,12 @@ ghost use Rattle.markup_rules.specs.View.{around_view, position_tree};
 ghost use Rattle.type_faults.specs.View.{maybe_fault};
 ghost use Rattle.type_makers.specs.Standing.{sort_view, where_of};
 
-use con_terms::con::Con;
-use con_terms::kind::Kind;
-use con_terms::place::Place;
+use con_terms::{Con, Kind, Place};
 use core_terms::InputName;
 use judgements::{Globals, Here, copied, is_alike, kind_flaw, normal_of, other_form, wants};
 use std::alloc::{AllocError, Global};
 use type_faults::{Fault, Name, first};
-use type_makers::forms::row_kind;
-use type_makers::tags::{Standing, TagSort, context_row};
-use type_makers::types::{no_types, one_field};
+use type_makers::{Standing, TagSort, context_row, no_types, one_field, row_kind};
 
 /// Whether a form is around an element, where it stands as its tag does. Contracts see it as `around_view`.
 #[derive(Clone, Copy)]

@@ -5,8 +5,7 @@ ghost use Rattle.match_cover.specs.Misses.{columns_at as columns_in};
 ghost use Rattle.match_cover.specs.View.{columns_view, part_view};
 
 use crate::seen::Part;
-use con_terms::con::Con;
-use con_terms::copy::copy_con;
+use con_terms::{Con, copy_con};
 use std::alloc::{AllocError, Global};
 use std::rc::Rc;
 

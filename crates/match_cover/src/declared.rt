@@ -3,12 +3,11 @@ ghost use Rattle.std.specs.Prelude.{◌≡◌, ◌++◌, ◌∷◌, [], IfOk, On
 ghost use Rattle.core_terms.specs.View.{constructor_view, datatype_view, decl_tree, decls_view, maybe_con};
 ghost use Rattle.core_typing.specs.Declarations.{datatypes, datatypes_before as before};
 
-use con_terms::con::Con;
-use con_terms::copy::copy_con;
+use con_terms::{Con, copy_con};
 use core_terms::{Constructor, Constructors, Datatype, Decl, Decls};
 use std::alloc::{AllocError, Global};
 use type_faults::copy_symbols;
-use type_makers::datatypes::basis_datatypes;
+use type_makers::basis_datatypes;
 
 /// A copy of what a constructor holds.
 fn copy_held(alloc: Global, held: &Option<Con>) -> Result<Option<Con>, AllocError>

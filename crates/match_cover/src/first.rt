@@ -9,7 +9,7 @@ ghost use Rattle.match_cover.specs.View.{first_view, firsts_view, part_view, see
 use crate::seen::{Part, Seen, held_type, see};
 use crate::shapes::{Shapes, gather, shape_before};
 use crate::test::normal_of;
-use con_terms::con::{Con, Cons};
+use con_terms::{Con, Cons};
 use core_terms::Datatype;
 use std::alloc::{AllocError, Global};
 use table_rows::Text;

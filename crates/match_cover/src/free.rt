@@ -10,7 +10,7 @@ use crate::columns::Columns;
 use crate::first::{Work, first_shape, spend};
 use crate::rows::{Rows, heads_are_free, kept, one_is_free, shared, tails};
 use crate::shapes::{Shapes, shape_before};
-use con_terms::con::Con;
+use con_terms::Con;
 use core_terms::Datatype;
 use std::alloc::{AllocError, Global};
 use std::rc::Rc;

@@ -8,10 +8,9 @@ ghost use Rattle.match_cover.specs.View.{maybe_cons, part_view, seen_view};
 
 use crate::seen::{Part, Seen, held_type, see};
 use crate::test::normal_of;
-use con_terms::con::{Con, Cons};
-use con_terms::copy::copy_con;
+use con_terms::{Con, Cons, copy_con};
 use core_terms::Datatype;
-use row_normal::same::same_con;
+use row_normal::same_con;
 use std::alloc::{AllocError, Global};
 
 /// How many different types one level may have.

@@ -27,5 +27,6 @@ pub mod shapes;
 pub mod test;
 
 pub use cover::{Asked, covers, covers_asked};
-pub use declared::datatypes_before;
+pub use declared::{copy_datatype, datatypes_before};
 pub use fault::CoverFault;
+pub use seen::{Seen, held_type, see};

@@ -10,10 +10,8 @@ ghost use Rattle.type_faults.specs.View.{shape_tree, shapes_tree};
 
 use crate::seen::Part;
 use crate::test::{Test, Tests};
-use con_terms::con::Con;
-use con_terms::copy::copy_con;
-use con_terms::symbol::Sym;
-use row_normal::same::same_con;
+use con_terms::{Con, Sym, copy_con};
+use row_normal::same_con;
 use std::alloc::{AllocError, Global};
 use std::rc::Rc;
 use table_rows::Text;

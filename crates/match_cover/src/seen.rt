@@ -8,13 +8,10 @@ ghost use Rattle.core_typing.specs.Seen.{named_fields, seen as seen_in, seen_at,
 ghost use Rattle.match_cover.specs.Spines as spine;
 ghost use Rattle.match_cover.specs.View.{part_view, seen_view};
 
-use con_terms::con::{Con, Cons, Pair, Pairs};
-use con_terms::copy::copy_con;
-use con_terms::symbol::Sym;
+use con_terms::{Con, Cons, Pair, Pairs, Sym, copy_con};
 use core_terms::Datatype;
 use std::alloc::{AllocError, Global};
-use type_makers::datatypes::held_at;
-use type_makers::symbols;
+use type_makers::{held_at, symbols};
 
 /// How many nodes a type may have that is put together from a datatype's declaration and its arguments.
 const NODES: u32 = 50_000;

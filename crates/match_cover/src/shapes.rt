@@ -6,8 +6,7 @@ ghost use Rattle.match_cover.specs.View.{part_view, shapes_view};
 ghost use Rattle.type_faults.specs.View.{shape_tree, shapes_from};
 
 use crate::seen::Part;
-use con_terms::copy::copy_con;
-use con_terms::symbol::Sym;
+use con_terms::{Sym, copy_con};
 use std::alloc::{AllocError, Global};
 use type_faults::{Shape, ShapeField, ShapeFields};
 

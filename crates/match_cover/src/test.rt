@@ -7,12 +7,11 @@ ghost use Rattle.core_typing.specs.Scopes.{normal_of as normal_in};
 ghost use Rattle.match_cover.specs.Tests as meant;
 ghost use Rattle.match_cover.specs.View.{test_tree, tests_tree};
 
-use con_terms::con::Con;
-use con_terms::kind::Kind;
-use con_terms::symbol::Sym;
+use con_terms::{Con, Kind, Sym};
 use core_terms::{Pat, PatFields, PatForm};
 use kind_rules::compare::comparison_fuel;
-use row_normal::normal::{NormalFault, normal};
+use row_normal::NormalFault;
+use row_normal::normal::normal;
 use std::alloc::{AllocError, Global};
 use std::rc::Rc;
 use table_rows::Text;

@@ -1,6 +1,5 @@
 //! Why a source isn't elaborated.
-use con_terms::kind::Kind;
-use con_terms::place::Place;
+use con_terms::{Kind, Place};
 use std::alloc::AllocError;
 use std::fmt;
 use table_rows::Text;

@@ -1,12 +1,11 @@
 //! Instances: the values in scope whose types have a wanted normal form.
 use crate::known::{KnownValue, ValueName};
 use crate::scope::Scope;
-use con_terms::con::Con;
-use con_terms::kind::Kind;
+use con_terms::{Con, Kind};
 use core_terms::BasisName;
 use kind_rules::compare::comparison_fuel;
-use row_normal::form::Normal;
-use row_normal::normal::{NormalFault, normal, same};
+use row_normal::normal::{normal, same};
+use row_normal::{Normal, NormalFault};
 use std::alloc::{AllocError, Global};
 use type_makers::basis_type;
 

@@ -1,7 +1,5 @@
 //! What a name that is in scope stands for.
-use con_terms::con::Con;
-use con_terms::kind::Kind;
-use con_terms::symbol::Sym;
+use con_terms::{Con, Kind, Sym};
 use core_terms::BasisName;
 use plain_tree::Path;
 use std::alloc::{AllocError, Global};

@@ -1,10 +1,6 @@
 //! The names that binders give, the innermost first.
 use crate::known::{KnownValue, ValueName, may_be_of_class};
-use con_terms::con::Con;
-use con_terms::kind::{Kind, copy_kind};
-use con_terms::size::has_room;
-use con_terms::substitute::shift;
-use con_terms::symbol::Sym;
+use con_terms::{Con, Kind, Sym, copy_kind, has_room, shift};
 use core_terms::Symbols;
 use std::alloc::{AllocError, Global};
 use std::rc::Rc;

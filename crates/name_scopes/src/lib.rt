@@ -15,4 +15,4 @@ pub mod tops;
 pub use fault::ElabFault;
 pub use known::{KnownBuilder, KnownType, KnownValue, ValueName, path_text};
 pub use scope::Scope;
-pub use tops::{TopType, TopValue, Tops};
+pub use tops::{MOST_TYPES, TopType, TopValue, Tops};

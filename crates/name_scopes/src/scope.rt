@@ -8,11 +8,7 @@ use crate::fault::ElabFault;
 use crate::known::{KnownBuilder, KnownType, KnownValue, ValueName};
 use crate::layers::{Entry, Layers};
 use crate::tops::Tops;
-use con_terms::con::Con;
-use con_terms::copy::copy_con;
-use con_terms::kind::{Kind, copy_kind};
-use con_terms::place::Place;
-use con_terms::symbol::{Sym, SymTable};
+use con_terms::{Con, Kind, Place, Sym, SymTable, copy_con, copy_kind};
 use core_terms::{BasisName, Symbols};
 use kind_rules::compare::normal_sides;
 use kind_rules::scope::Scope as Kinds;
@@ -20,11 +16,11 @@ use plain_tree::{BasisBuilder, Path};
 use std::alloc::{AllocError, Global};
 use std::rc::Rc;
 use table_rows::Text;
-use type_faults::flaws::flaw_fault;
-use type_makers::by_name::{named_kind, named_type, type_named, value_named};
-use type_makers::forms::arrow;
-use type_makers::types::{string_type, transaction_of, unit_type};
-use type_makers::{basis_type, fold_type};
+use type_faults::flaw_fault;
+use type_makers::{
+    arrow, basis_type, fold_type, named_kind, named_type, string_type, transaction_of, type_named,
+    unit_type, value_named,
+};
 
 /// What is in scope.
 #[derive(Drop)]

@@ -1,18 +1,13 @@
 //! What is declared at the top of the modules, beside what every program has.
 use crate::known::{KnownBuilder, may_be_of_class};
 use crate::table::NameTable;
-use con_terms::con::Con;
-use con_terms::copy::copy_con;
-use con_terms::kind::{Kind, copy_kind, same_kind};
-use con_terms::symbol::{Sym, SymTable};
+use con_terms::{Con, Kind, Sym, SymTable, copy_con, copy_kind, same_kind};
 use core_terms::{Constructor, Datatype, FolderName, Folders, Foreigns, TypeName};
 use kind_rules::scope::{Basic, Scope as Kinds};
 use plain_tree::Path;
 use std::alloc::{AllocError, Global};
 use table_rows::Text;
-use type_makers::by_name::named_kind;
-use type_makers::forms::{arrow_kind, row_kind};
-use type_makers::{basis_datatypes, constructor_type, symbols};
+use type_makers::{arrow_kind, basis_datatypes, constructor_type, named_kind, row_kind, symbols};
 
 /// How many types a program may declare, and over how many kinds it may have folders. More count as
 /// want of memory, since letting go of a scope takes stack for each.

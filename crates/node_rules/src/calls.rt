@@ -11,9 +11,7 @@ ghost use Rattle.node_rules.specs.View.{fit_tree, past_tree};
 ghost use Rattle.told_faults.specs.Computed.{function_parts, guarded_parts, poly_parts};
 ghost use Rattle.type_faults.specs.View.{maybe_fault};
 
-use con_terms::con::Con;
-use con_terms::kind::Kind;
-use con_terms::place::Place;
+use con_terms::{Con, Kind, Place};
 use core_terms::ConOrigin;
 use judgements::{
     Globals, Here, Judged, flaw_at, has_kind, meets, normal_of, other_form, put, wants,
@@ -21,7 +19,7 @@ use judgements::{
 use kind_rules::flaw::Flaw;
 use std::alloc::{AllocError, Global};
 use type_faults::{Fault, first};
-use type_makers::forms::{arrow, empty_row, guarded, poly};
+use type_makers::{arrow, empty_row, guarded, poly};
 
 /// The type behind some items; or none, and what is told of the items. Contracts see it as `fit_tree`.
 #[derive(Drop)]

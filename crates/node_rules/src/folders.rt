@@ -7,18 +7,14 @@ ghost use Rattle.kind_rules.specs.View.{found};
 ghost use Rattle.node_rules.specs.Records as computed;
 
 use crate::records::name_flaw;
-use con_terms::con::{Con, Pairs};
-use con_terms::copy::copy_pairs;
-use con_terms::kind::Kind;
-use con_terms::place::Place;
-use con_terms::symbol::Sym;
+use con_terms::{Con, Kind, Pairs, Place, Sym, copy_pairs};
 use judgements::{
     Globals, Here, Judged, copied_kind, faulty, flaw_at, folder_named, has_kind, typed,
 };
 use kind_rules::flaw::Flaw;
 use std::alloc::{AllocError, Global};
 use type_faults::{Fault, Name, first};
-use type_makers::forms::{applied, row_kind};
+use type_makers::{applied, row_kind};
 
 /// A row literal.
 fn row_literal(alloc: Global, k: &Kind, ps: &Pairs) -> Result<Con, AllocError>

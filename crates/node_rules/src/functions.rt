@@ -8,14 +8,12 @@ ghost use Rattle.kind_rules.specs.View.{found};
 ghost use Rattle.node_rules.specs.Functions as computed;
 ghost use Rattle.type_faults.specs.View.{maybe_fault};
 
-use con_terms::con::Con;
-use con_terms::kind::Kind;
-use con_terms::place::Place;
+use con_terms::{Con, Kind, Place};
 use judgements::{Globals, Here, Judged, copied, copied_kind, flaw_at, wants};
 use kind_rules::flaw::Flaw;
 use std::alloc::{AllocError, Global};
 use type_faults::{Fault, first};
-use type_makers::forms::{arrow, poly};
+use type_makers::{arrow, poly};
 
 /// A function's type, where its body has one.
 fn arrow_to(alloc: Global, t: &Con, u: Option<Con>) -> Result<Option<Con>, AllocError>

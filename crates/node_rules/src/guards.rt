@@ -9,14 +9,13 @@ ghost use Rattle.kind_rules.specs.Rules.{expects_row, guard_rows};
 ghost use Rattle.kind_rules.specs.View.{found, scope_view, sides_tree, two_trees};
 ghost use Rattle.node_rules.specs.Functions as computed;
 
-use con_terms::con::Con;
-use con_terms::kind::Kind;
+use con_terms::{Con, Kind};
 use judgements::{Here, Judged, copied};
 use kind_rules::compare::{Sides, normal_sides};
 use kind_rules::flaw::{Differing, Flaw, Two, both};
 use kind_rules::kinding::judge;
 use std::alloc::{AllocError, Global};
-use type_makers::forms::guarded;
+use type_makers::guarded;
 
 /// A kind, where it is one of rows.
 fn row_kind(alloc: Global, k: Kind) -> Result<Result<Kind, Flaw>, AllocError>

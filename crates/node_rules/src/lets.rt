@@ -8,9 +8,7 @@ ghost use Rattle.node_rules.specs.Locals as computed;
 ghost use Rattle.node_rules.specs.View.{found_tree};
 ghost use Rattle.type_faults.specs.View.{maybe_fault};
 
-use con_terms::con::Con;
-use con_terms::kind::Kind;
-use con_terms::place::Place;
+use con_terms::{Con, Kind, Place};
 use judgements::{Globals, Here, Judged, flaw_at, has_kind, wants};
 use kind_rules::flaw::Flaw;
 use std::alloc::{AllocError, Global};

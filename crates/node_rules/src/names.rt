@@ -4,9 +4,7 @@ ghost use Rattle.con_terms.specs.View.{kind_tree};
 ghost use Rattle.judgements.specs.View.{judged_tree, sc_view};
 ghost use Rattle.node_rules.specs.Names as computed;
 
-use con_terms::kind::Kind;
-use con_terms::place::Place;
-use con_terms::symbol::Sym;
+use con_terms::{Kind, Place, Sym};
 use core_terms::BasisName;
 use judgements::{
     Globals, Here, Judged, constructor_named, copied_kind, datatype_named, faulty, folder_named,
@@ -14,9 +12,10 @@ use judgements::{
 };
 use std::alloc::{AllocError, Global};
 use type_faults::{Fault, Name};
-use type_makers::forms::arrow;
-use type_makers::types::{int_type, string_type, transaction_of, unit_type};
-use type_makers::{basis_type, constructor_type, fold_type};
+use type_makers::{
+    arrow, basis_type, constructor_type, fold_type, int_type, string_type, transaction_of,
+    unit_type,
+};
 
 /// `x`
 pub fn of_variable(

@@ -12,17 +12,14 @@ ghost use Rattle.told_faults.specs.Computed.{record_row};
 ghost use Rattle.type_faults.specs.View.{maybe_fault};
 
 use crate::records::{is_kinded, name_flaw};
-use con_terms::con::{Con, Cons};
-use con_terms::kind::Kind;
-use con_terms::place::Place;
+use con_terms::{Con, Cons, Kind, Place};
 use judgements::{
     Forms, Globals, Here, Judged, Taken, both_forms, copied, has_kind, head_of_record, meets,
     no_record, normal_of, other_form, pieces_of, row_of_rest, take_field, without_pieces,
 };
 use std::alloc::{AllocError, Global};
 use type_faults::{Fault, first};
-use type_makers::forms::{joined, record, row_kind};
-use type_makers::types::one_field;
+use type_makers::{joined, one_field, record, row_kind};
 
 /// What an operation gives, or what is told where it gives nothing. Contracts see it as `value_tree`.
 #[derive(Drop)]

@@ -11,14 +11,12 @@ ghost use Rattle.node_rules.specs.View.{maybe_pairs, row_tree};
 ghost use Rattle.told_faults.specs.Computed.{flawed};
 ghost use Rattle.type_faults.specs.View.{maybe_fault};
 
-use con_terms::con::{Con, Pair, Pairs};
-use con_terms::kind::Kind;
-use con_terms::place::Place;
+use con_terms::{Con, Kind, Pair, Pairs, Place};
 use judgements::{Globals, Here, Judged, copied, flaw_at, has_kind};
 use kind_rules::flaw::Flaw;
 use std::alloc::{AllocError, Global};
 use type_faults::{Fault, first};
-use type_makers::forms::{record, row_kind};
+use type_makers::{record, row_kind};
 
 /// The fields that have types so far, where all do; what is told of their terms, and of their names. Contracts see it
 /// as `row_tree`.

@@ -1,10 +1,7 @@
 //! Where a term stands: what is in scope, and the number of its file.
 use crate::types::bounded;
 use con_elaborator::con;
-use con_terms::con::Con;
-use con_terms::kind::Kind;
-use con_terms::place::Place;
-use con_terms::symbol::Sym;
+use con_terms::{Con, Kind, Place, Sym};
 use name_scopes::{ElabFault, Scope};
 use std::alloc::{AllocError, Global};
 use table_rows::Text;

@@ -2,16 +2,13 @@
 use crate::env::Env;
 use crate::memory::on_heap;
 use crate::types::boxed_normal;
-use con_terms::con::{Con, Pairs};
-use con_terms::kind::Kind;
-use con_terms::place::Place;
+use con_terms::{Con, Kind, Pairs, Place};
 use name_scopes::ElabFault;
 use plain_tree::Path;
 use std::alloc::{AllocError, Global};
 use table_rows::Text;
-use type_faults::fault::{Fault, Types};
-use type_makers::forms::{arrow, empty_row, poly, record};
-use type_makers::types::no_types;
+use type_faults::{Fault, Types};
+use type_makers::{arrow, empty_row, no_types, poly, record};
 
 /// The fault that a constructor is too large.
 pub fn too_large(at: Place) -> ElabFault {

@@ -2,16 +2,14 @@
 use crate::env::{Env, Side};
 use crate::faults::unbound;
 use crate::memory::{maybe_on_heap, on_heap};
-use con_terms::con::Con;
-use con_terms::kind::{Kind, copy_kind};
-use con_terms::place::Place;
+use con_terms::{Con, Kind, Place, copy_kind};
 use core_terms::{BasisName, Exp, Form, Sigil};
 use kind_rules::flaw::Differing;
 use name_scopes::{ElabFault, KnownBuilder, KnownValue, ValueName};
 use plain_tree::{Basis, BasisBuilder, Infix, Path};
 use std::alloc::{AllocError, Global};
 use std::mem::replace;
-use type_faults::fault::Fault;
+use type_faults::Fault;
 
 /// What a call begins with, and its type.
 #[derive(Drop)]

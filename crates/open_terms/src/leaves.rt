@@ -1,12 +1,12 @@
 //! Numbers and texts.
 use crate::heads::node;
 use crate::pending::{Outcome, done};
-use con_terms::place::Place;
+use con_terms::Place;
 use core_terms::{Exp, Form};
 use name_scopes::ElabFault;
 use std::alloc::{AllocError, Global};
 use table_rows::Text;
-use type_makers::types::{int_type, string_type};
+use type_makers::{int_type, string_type};
 
 /// The number that digits stand for, behind `-` where the flag is true. Sources have none above 2^63 - 1.
 pub fn number_of(negative: bool, digits: u64) -> i64 {

@@ -1,7 +1,7 @@
 //! Where an open term is open.
 use crate::env::Env;
 use crate::pending::{Argument, Call, Core, Outcome, Pending, Step};
-use con_terms::place::Place;
+use con_terms::Place;
 
 /// Where something of a call is open: an argument, or the call itself; none where nothing is.
 #[cycle(open_place)]

@@ -4,10 +4,7 @@
 use crate::env::Env;
 use crate::memory::{on_heap, put_before};
 use crate::want::Typed;
-use con_terms::con::Con;
-use con_terms::kind::Kind;
-use con_terms::place::Place;
-use con_terms::symbol::Sym;
+use con_terms::{Con, Kind, Place, Sym};
 use core_terms::{ConOrigin, Exp, Locals, Pat, Sigil};
 use std::alloc::{AllocError, Global};
 use unknowns::Found;

@@ -4,16 +4,13 @@ use crate::faults::{any_record, boxed_mismatch, boxed_not_of, record_of_pairs, t
 use crate::memory::on_heap;
 use crate::types::{boxed_normal, boxed_reduced, reduced};
 use crate::want::boxed_copy;
-use con_terms::con::{Con, Cons, Pair, Pairs};
-use con_terms::copy::copy_con;
-use con_terms::kind::Kind;
-use con_terms::place::Place;
+use con_terms::{Con, Cons, Kind, Pair, Pairs, Place, copy_con};
 use kind_rules::compare::{Comparison, compare};
 use name_scopes::ElabFault;
-use row_normal::pieces::{pieces, row_of_pieces};
-use row_normal::same::same_con;
+use row_normal::pieces::pieces;
+use row_normal::{row_of_pieces, same_con};
 use std::alloc::{AllocError, Global};
-use type_makers::forms::record;
+use type_makers::record;
 
 /// The row of a record type; none where the type is no record's.
 fn row_in(t: Box<Con>) -> Option<Box<Con>> {

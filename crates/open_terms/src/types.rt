@@ -4,13 +4,11 @@ ghost use Rattle.std.specs.Prelude.{◌<◌};
 use crate::memory::maybe_on_heap;
 use crate::want::Want;
 use con_nodes::{MOST, left_beside, most_units};
-use con_terms::con::Con;
-use con_terms::kind::Kind;
-use con_terms::size::has_room;
-use con_terms::substitute::subst;
+use con_terms::{Con, Kind, has_room, subst};
 use kind_rules::compare::comparison_fuel;
-use row_normal::normal::{Fuel, NormalFault, normal};
-use row_normal::written::{reduce, reduce_head};
+use row_normal::normal::normal;
+use row_normal::written::reduce;
+use row_normal::{Fuel, NormalFault, reduce_head};
 use std::alloc::{AllocError, Global};
 
 /// The units of reductions of a constructor: those of a comparison, but not more than its largest function allows.

@@ -1,8 +1,7 @@
 //! What is known of the type of a term, and a term with its type.
 use crate::memory::on_heap;
 use crate::types::{boxed_head, wants_nothing};
-use con_terms::con::Con;
-use con_terms::copy::copy_con;
+use con_terms::{Con, copy_con};
 use core_terms::Exp;
 use name_scopes::ElabFault;
 use std::alloc::{AllocError, Global};

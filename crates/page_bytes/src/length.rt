@@ -13,8 +13,7 @@ use crate::chunk::{Chunk, attribute, closing_tag, tag_front};
 use crate::escape::escape_of;
 use crate::hidden::hidden_behind;
 use itoa::Buffer;
-use xml_trees::laws::pieces_are_pages;
-use xml_trees::{Attr, Page, Piece, Tag};
+use xml_trees::{Attr, Page, Piece, Tag, pieces_are_pages};
 
 /// One more than the length of the longest page, which stands for every greater length.
 pub const TOO_LONG: u64 = 16_777_217;

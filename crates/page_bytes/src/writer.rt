@@ -16,8 +16,7 @@ use crate::gather::{Held, flush, put};
 use crate::hidden::hidden_behind;
 use itoa::Buffer;
 use ur_outside::Sink;
-use xml_trees::laws::pieces_are_pages;
-use xml_trees::{Attr, Page, Piece, Tag};
+use xml_trees::{Attr, Page, Piece, Tag, pieces_are_pages};
 
 /// Puts out a chunk.
 fn put_chunk<K: Sink>(held: &mut Held, sink: &mut K, chunk: Chunk) -> Result<(), PageFault>

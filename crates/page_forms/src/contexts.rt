@@ -1,12 +1,11 @@
 //! The context of a literal of a page that nothing else tells: the first that fits its nodes.
 use core_terms::TagName;
 use name_scopes::ElabFault;
-use open_terms::env::Env;
-use open_terms::memory::add;
+use open_terms::{Env, add};
 use plain_tree::{Basis, Exp, Form, Node, Nodes};
 use std::alloc::Global;
 use table_rows::Text;
-use type_makers::tags::{Standing, TagSort, sort_of, stands};
+use type_makers::{Standing, TagSort, sort_of, stands};
 
 /// A place, and whether a form is around it.
 #[derive(Clone, Copy, Debug, PartialEq, Eq)]

@@ -4,21 +4,15 @@ use crate::fields::{filled_by, input_name};
 use crate::grounds::{Ground, content_ground};
 use crate::nodes::{KnownNode, Placed};
 use crate::placing::{Opened, PageAfter, Placing, Siblings, Turn, none_placed, place_nodes};
-use con_terms::con::Con;
-use con_terms::copy::copy_con;
-use con_terms::place::Place;
+use con_terms::{Con, Place, copy_con};
 use core_terms::{AttrName, Attribute, Attributes, Element, Exp, Form, InputName, Nodes, TagName};
 use name_scopes::ElabFault;
-use open_terms::env::Env;
-use open_terms::heads::node;
-use open_terms::memory::{add, on_heap};
-use open_terms::pending::Outcome;
-use open_terms::want::{Typed, Want, boxed_copy, whole};
+use open_terms::{Env, Outcome, Typed, Want, add, boxed_copy, node, on_heap, whole};
 use plain_tree::Node as Source;
 use std::alloc::{AllocError, Global};
 use std::mem::replace;
-use term_parts::progress::{Progress, ask, settled, term};
-use type_makers::tags::attribute_type;
+use term_parts::{Progress, ask, settled, term};
+use type_makers::attribute_type;
 
 /// An element before its content.
 #[derive(Drop)]

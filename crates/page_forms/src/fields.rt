@@ -1,16 +1,11 @@
 //! The fields that inputs of forms fill.
-use call_parts::pages::no_fields;
-use con_terms::con::Con;
-use con_terms::copy::copy_con;
-use con_terms::kind::Kind;
-use con_terms::place::Place;
+use call_parts::no_fields;
+use con_terms::{Con, Kind, Place, copy_con};
 use core_terms::{InputName, TagName};
 use name_scopes::ElabFault;
-use open_terms::env::Env;
-use open_terms::memory::on_heap;
+use open_terms::{Env, on_heap};
 use std::alloc::{AllocError, Global};
-use type_makers::tags::{TagSort, sort_of};
-use type_makers::types::{bool_type, one_field, string_type};
+use type_makers::{TagSort, bool_type, one_field, sort_of, string_type};
 
 /// Whether a tag is an input.
 fn is_input(tag: TagName) -> bool {

@@ -1,12 +1,10 @@
 //! Where nodes of pages stand.
-use call_parts::pages::{has_form_around, no_fields, page_parts, reduced_row};
-use con_terms::con::Con;
+use call_parts::{has_form_around, no_fields, page_parts, reduced_row};
+use con_terms::Con;
 use core_terms::TagName;
-use open_terms::memory::on_heap;
-use open_terms::want::{Want, boxed_copy};
+use open_terms::{Want, boxed_copy, on_heap};
 use std::alloc::{AllocError, Global};
-use type_makers::tags::{Standing, TagSort, context_row, sort_of, stands};
-use type_makers::types::xml_of;
+use type_makers::{Standing, TagSort, context_row, sort_of, stands, xml_of};
 
 /// Where nodes stand: their context, and the fields of the form that are filled before them.
 #[derive(Drop)]

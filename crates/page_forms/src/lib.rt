@@ -9,3 +9,6 @@ pub mod grounds;
 pub mod literals;
 pub mod nodes;
 pub mod placing;
+
+pub use literals::{of_page, of_xml};
+pub use placing::PageAfter;

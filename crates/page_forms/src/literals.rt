@@ -4,14 +4,12 @@ use crate::elements::with_attribute;
 use crate::grounds::{Ground, boxed_context, wanted_ground};
 use crate::nodes::Ready;
 use crate::placing::{PageAfter, literal_at, with_tree, with_value};
-use call_parts::pages::{no_fields, page_parts};
+use call_parts::{no_fields, page_parts};
 use name_scopes::ElabFault;
-use open_terms::memory::on_heap;
-use open_terms::pending::{Core, Outcome, PageRest, later};
-use open_terms::want::{Want, may_grow};
+use open_terms::{Core, Outcome, PageRest, Want, later, may_grow, on_heap};
 use plain_tree::{Node, Nodes};
 use std::alloc::Global;
-use term_parts::progress::{Progress, Sought, ask, below, settled, term};
+use term_parts::{Progress, Sought, ask, below, settled, term};
 
 /// Goes on with what a part gave.
 pub fn go_on<'a>(

@@ -1,13 +1,9 @@
 //! Nodes of pages in which nothing is left to elaborate.
 use crate::grounds::Ground;
-use call_parts::pages::{is_empty_row, no_fields, page_parts, rows_joined};
-use con_terms::con::Con;
-use con_terms::copy::copy_con;
-use con_terms::place::Place;
+use call_parts::{is_empty_row, no_fields, page_parts, rows_joined};
+use con_terms::{Con, Place, copy_con};
 use core_terms::{BasisName, ConOrigin, Exp, Form, Item, Items, Literal, Node, Nodes, Sigil};
-use open_terms::heads::node;
-use open_terms::memory::on_heap;
-use open_terms::want::Typed;
+use open_terms::{Typed, node, on_heap};
 use std::alloc::{AllocError, Global};
 use std::mem::replace;
 use table_rows::Text;

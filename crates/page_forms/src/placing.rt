@@ -3,18 +3,15 @@ use crate::contexts::is_spliced_value;
 use crate::elements::{Attributing, Opening, element_node, open_element};
 use crate::grounds::{Ground, page_of};
 use crate::nodes::{KnownNode, Placed, Ready, literal_term, put_node, ready_at, tree_node, words};
-use call_parts::pages::no_fields;
-use con_terms::place::Place;
+use call_parts::no_fields;
+use con_terms::Place;
 use core_terms::AttrName;
 use name_scopes::ElabFault;
-use open_terms::env::Env;
-use open_terms::memory::on_heap;
-use open_terms::pending::{Outcome, PageRest, done};
-use open_terms::want::{Want, boxed_copy};
+use open_terms::{Env, Outcome, PageRest, Want, boxed_copy, done, on_heap};
 use plain_tree::{Exp, Node as Source};
 use std::alloc::{AllocError, Global};
 use std::mem::replace;
-use term_parts::progress::{Part, Progress, ask, settled, term};
+use term_parts::{Part, Progress, ask, settled, term};
 
 /// Nodes that stand beside one another.
 #[derive(Drop)]

@@ -3,7 +3,7 @@ use crate::driving::{Found, markup_of, query_of};
 use crate::outline::outline_of;
 use crate::sources::written_out;
 use crate::tokens::{fault_line, tokens_line, tokens_of};
-use grammar_engine::read::read_whole;
+use grammar_engine::read_whole;
 use std::alloc::{AllocError, Global};
 use surface_grammar::{Form, ParseFault, Part, Tree};
 use surface_tree::Tokens;

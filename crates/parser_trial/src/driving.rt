@@ -6,9 +6,8 @@ ghost use Rattle.grammar_engine.specs.Reads.{Reads};
 ghost use Rattle.hole_reader.specs.Holes.{form_of};
 ghost use Rattle.hole_reader.specs.Readers.{most};
 
-use grammar_engine::Stop;
-use grammar_engine::read::{Reading, read_part};
-use hole_reader::holes::form_of;
+use grammar_engine::{Reading, Stop, read_part};
+use hole_reader::form_of;
 use markup_parser::Markup;
 use query_parser::SqlText;
 use std::alloc::Global;

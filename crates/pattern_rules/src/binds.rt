@@ -21,10 +21,7 @@ ghost use Rattle.type_faults.specs.View.{fault_tree, maybe_fault};
 
 use crate::constructors::{bare_binding, data_at, held_less};
 use crate::fields::{earlier, no_field_there, whole_binding};
-use con_terms::con::{Con, Cons};
-use con_terms::kind::Kind;
-use con_terms::place::Place;
-use con_terms::symbol::Sym;
+use con_terms::{Con, Cons, Kind, Place, Sym};
 use core_terms::{Pat, PatField, PatFields, PatForm};
 use judgements::{
     Bound, Globals, Here, Locals, copied, flaw_at, has_kind, normal_of, other_form, take_field,
@@ -34,7 +31,7 @@ use row_normal::pieces::pieces;
 use std::alloc::{AllocError, Global};
 use std::rc::Rc;
 use type_faults::Fault;
-use type_makers::types::{int_type, string_type, unit_type};
+use type_makers::{int_type, string_type, unit_type};
 
 /// The constructor that a pattern names, at a type: what is told, the type's normal form alone where the constructor
 /// holds nothing, or with what it holds.

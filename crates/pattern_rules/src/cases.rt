@@ -12,8 +12,7 @@ ghost use Rattle.pattern_rules.specs.Matching as computed;
 ghost use Rattle.pattern_rules.specs.View.{branch_tree, cases_tree};
 ghost use Rattle.type_faults.specs.View.{fault_tree, maybe_fault, shape_tree};
 
-use con_terms::con::Con;
-use con_terms::place::Place;
+use con_terms::{Con, Place};
 use core_terms::{Branches, Pat};
 use judgements::{Globals, Here, Judged, names_called, wants};
 use match_cover::{Asked, CoverFault, covers_asked};

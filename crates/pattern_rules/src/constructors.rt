@@ -14,17 +14,15 @@ ghost use Rattle.pattern_rules.specs.View.{data_tree};
 ghost use Rattle.type_faults.specs.View.{fault_tree};
 
 use crate::binds::AtData;
-use con_terms::con::{Con, Cons};
-use con_terms::place::Place;
-use con_terms::symbol::Sym;
+use con_terms::{Con, Cons, Place, Sym};
 use core_terms::{Constructor, Datatype};
 use judgements::{
     Bound, Globals, Here, constructor_named, copied, datatype_named, normal_of, other_form,
 };
-use match_cover::seen::{Seen, held_type, see};
+use match_cover::{Seen, held_type, see};
 use std::alloc::{AllocError, Global};
 use type_faults::{Fault, Name};
-use type_makers::forms::{applied, arrow};
+use type_makers::{applied, arrow};
 
 /// A datatype's type at arguments of which nothing is told.
 fn untold_type(alloc: Global, d: Sym, count: usize) -> Result<Con, AllocError>

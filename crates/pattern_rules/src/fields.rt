@@ -9,13 +9,11 @@ ghost use Rattle.told_faults.specs.Computed.{sooner as sooner_in};
 ghost use Rattle.type_faults.specs.View.{fault_tree};
 
 use crate::binds::FieldsBound;
-use con_terms::con::{Con, Cons};
-use con_terms::place::Place;
+use con_terms::{Con, Cons, Place};
 use judgements::{Bound, Globals, Here, other_form, row_of_rest};
 use std::alloc::{AllocError, Global};
 use type_faults::{Fault, place_of};
-use type_makers::forms::record;
-use type_makers::types::{one_field, unit_type};
+use type_makers::{one_field, record, unit_type};
 
 /// The record of the pieces that are left of a row.
 fn left_over(alloc: Global, rest: Cons) -> Result<Con, AllocError>

@@ -1,17 +1,14 @@
 //! What stands around a term, put around it once the term is known; `case` goes on with its other branches then.
-use con_terms::con::Con;
-use con_terms::place::Place;
+use con_terms::{Con, Place};
 use core_terms::{Branch, Branches, Pat};
 use name_scopes::ElabFault;
-use open_terms::env::Env;
-use open_terms::memory::{add, on_heap};
-use open_terms::pending::{CaseRest, Frame, Outcome, under};
-use open_terms::want::{Typed, Want, boxed_copy};
+use open_terms::{CaseRest, Env, Frame, Outcome, Typed, Want, add, boxed_copy, on_heap, under};
 use plain_tree::Exp;
 use std::alloc::{AllocError, Global};
-use term_parts::binders::{around_case, around_con, around_fn, around_guard, around_let};
-use term_parts::patterns::{pattern, with_bound};
-use term_parts::progress::{Part, Progress, Sought, ask, below, settled, term};
+use term_parts::{
+    Part, Progress, Sought, around_case, around_con, around_fn, around_guard, around_let, ask,
+    below, pattern, settled, term, with_bound,
+};
 
 /// What stands around a term, the outermost first, and the number of levels that were left inside of it.
 #[derive(Drop)]

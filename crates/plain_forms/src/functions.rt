@@ -1,14 +1,10 @@
 //! Functions, parameter by parameter.
 use crate::frames::{Around, FrameAfter};
 use name_scopes::ElabFault;
-use open_terms::env::Env;
-use open_terms::memory::{add, on_heap};
-use open_terms::pending::{Core, FnRest, Frame, Outcome, Pending, under};
-use open_terms::want::Want;
+use open_terms::{Core, Env, FnRest, Frame, Outcome, Pending, Want, add, on_heap, under};
 use plain_tree::{Args, Exp};
 use std::alloc::{AllocError, Global};
-use term_parts::parameters::{Entered, enter};
-use term_parts::progress::{Progress, Sought, ask, term};
+use term_parts::{Entered, Progress, Sought, ask, enter, term};
 
 /// `fn .. => e`
 pub fn of_fn<'a>(

@@ -1,22 +1,15 @@
 //! Declarations of `let`, and terms with a written type.
 use crate::frames;
 use crate::frames::{FrameAfter, ask_inside};
-use con_terms::con::Con;
-use con_terms::copy::copy_con;
-use con_terms::kind::Kind;
-use con_terms::place::Place;
-use con_terms::symbol::Sym;
+use con_terms::{Con, Kind, Place, Sym, copy_con};
 use core_terms::{Exp, Local, Locals, Named, NamedList};
 use name_scopes::ElabFault;
-use open_terms::env::Env;
-use open_terms::memory::{add, on_heap};
-use open_terms::pending::{Frame, Outcome};
-use open_terms::want::{Typed, Want, boxed_copy};
+use open_terms::{Env, Frame, Outcome, Typed, Want, add, boxed_copy, on_heap};
 use std::alloc::{AllocError, Global};
 use std::mem::replace;
-use term_parts::binders::ascribed;
-use term_parts::progress::{Becomes, Progress, Sought, ask, below, raised, settled, term};
-use term_parts::signatures::signature_of;
+use term_parts::{
+    Becomes, Progress, Sought, ascribed, ask, below, raised, settled, signature_of, term,
+};
 
 /// A `let` with its declarations so far.
 #[derive(Drop)]

@@ -5,3 +5,7 @@
 pub mod frames;
 pub mod functions;
 pub mod lets;
+
+pub use frames::{Around, FrameAfter, of_case};
+pub use functions::{of_fn, of_fn_rest};
+pub use lets::{LetAfter, of_let, of_typed};

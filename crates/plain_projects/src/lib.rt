@@ -7,4 +7,5 @@ pub mod names;
 pub mod project;
 pub mod settings;
 
+pub use names::names_of;
 pub use project::{PlainProject, plain_project};

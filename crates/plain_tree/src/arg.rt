@@ -2,7 +2,7 @@
 use crate::con::Con;
 use crate::names::Word;
 use crate::pat::Pat;
-use con_terms::kind::Kind;
+use con_terms::Kind;
 
 /// A parameter of a function. Contracts see it as `arg_tree`.
 #[derive(Drop)]

@@ -1,6 +1,6 @@
 //! Constructors of the type level.
 use crate::names::{Label, Numbers, Path, Places};
-use con_terms::kind::Kind;
+use con_terms::Kind;
 use table_rows::Text;
 
 /// A constructor of the type level. Contracts see it as `con_tree`.

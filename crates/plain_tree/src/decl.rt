@@ -2,7 +2,7 @@
 use crate::con::Con;
 use crate::exp::Local;
 use crate::names::{Word, Words};
-use con_terms::kind::Kind;
+use con_terms::Kind;
 
 /// A declaration of a module. Contracts see it as `decl_tree`.
 #[derive(Drop)]

@@ -6,7 +6,7 @@ use crate::places::{bounded_copy, named, written_type};
 use crate::terms::{Env, Terms, TypedTerm};
 use crate::texts::LEVELS;
 use crate::types::{of_con, of_datatype};
-use con_terms::place::Place;
+use con_terms::Place;
 use core_terms::{Decl, Named, Symbols};
 use name_scopes::{ElabFault, Tops};
 use plain_tree::Local;

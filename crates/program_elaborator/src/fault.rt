@@ -2,7 +2,7 @@
 ghost use Rattle.std.specs.Prelude.{◌≡◌};
 ghost use Rattle.name_scopes.specs.declared.fault.ElabFault.TheVariants as elab;
 
-use con_terms::symbol::{Sym, SymTable};
+use con_terms::{Sym, SymTable};
 use name_scopes::{ElabFault, Tops};
 use std::alloc::{AllocError, Global};
 use table_rows::{Text, Texts};

@@ -3,8 +3,7 @@
 use crate::fault::{Refusal, memory, refused};
 use crate::terms::Env;
 use core_terms::Decl;
-use name_scopes::tops::MOST_TYPES;
-use name_scopes::{ElabFault, Scope, Tops};
+use name_scopes::{ElabFault, MOST_TYPES, Scope, Tops};
 use std::alloc::{AllocError, Global};
 use std::rc::Rc;
 

@@ -16,4 +16,4 @@ pub mod types;
 
 pub use fault::Refusal;
 pub use program::{Source, elaborate_with};
-pub use terms::{Terms, TypedTerm};
+pub use terms::{Env, Terms, TypedTerm};

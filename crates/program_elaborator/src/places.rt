@@ -2,11 +2,7 @@
 use crate::folders::on_heap;
 use crate::terms::Env;
 use con_nodes::{MOST, left_beside};
-use con_terms::con::Con;
-use con_terms::copy::copy_con;
-use con_terms::kind::Kind;
-use con_terms::place::Place;
-use con_terms::symbol::Sym;
+use con_terms::{Con, Kind, Place, Sym, copy_con};
 use core_terms::{Exp, Named, Symbols};
 use name_scopes::ElabFault;
 use plain_tree::{Word, Words};

@@ -1,5 +1,5 @@
 //! What is asked of the elaboration of terms, and where a declaration stands.
-use con_terms::con::Con;
+use con_terms::Con;
 use core_terms::Exp;
 use name_scopes::{ElabFault, Scope};
 use std::alloc::Global;

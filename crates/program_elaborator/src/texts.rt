@@ -1,14 +1,14 @@
 //! The symbols of all texts that modules write as names. They are made before anything is looked up.
 //! `room` is the number of levels that are left; none left counts as want of memory.
-use con_terms::symbol::SymTable;
-use plain_tree::con::{Con, ConFields, ConForm, Cons};
+use con_terms::SymTable;
 use plain_tree::{
-    Arg, Args, Attributes, Branch, Branches, Datatype, Decl, Exp, Fields, Form, Item, Items, Label,
-    Link, Links, Local, Locals, Named, NamedList, Node, Nodes, Pat, PatFields, PatForm, Plain,
+    Arg, Args, Attributes, Branch, Branches, Con, ConFields, ConForm, Cons, Datatype, Decl, Exp,
+    Fields, Form, Item, Items, Label, Link, Links, Local, Locals, Named, NamedList, Node, Nodes,
+    Pat, PatFields, PatForm, Plain,
 };
 use std::alloc::{AllocError, Global};
 use table_rows::Text;
-use type_makers::symbols::basis_symbols;
+use type_makers::basis_symbols;
 
 /// How deep the parts of a declaration may lie in one another.
 pub const LEVELS: u32 = 1_200;

@@ -3,7 +3,7 @@ ghost use Rattle.std.specs.Prelude.{IsTrue};
 ghost use Rattle.con_terms.specs.View.{con_tree, cons_tree, pair_tree, pairs_tree};
 ghost use Rattle.core_terms.specs.Leaves.{AllNamesThere, FieldNamesThere, NamesThere};
 
-use con_terms::con::{Con, Cons, Pair, Pairs};
+use con_terms::{Con, Cons, Pair, Pairs};
 
 /// Whether each literal name in a constructor is one of so many symbols.
 #[cycle(names_there)]

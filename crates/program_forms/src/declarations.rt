@@ -10,11 +10,10 @@ ghost use Rattle.program_forms.specs.Columns.{ColumnsThere};
 
 use crate::constructors::names_there;
 use crate::terms::{named_fit, named_fits};
-use con_terms::con::Con;
-use core_terms::decl::{
-    Columns, ConDecl, Constructor, Constructors, Datatype, Decl, Decls, Sort, Thing,
+use con_terms::Con;
+use core_terms::{
+    Columns, ConDecl, Constructor, Constructors, Datatype, Decl, Decls, Sort, Symbols, Thing,
 };
-use core_terms::names::Symbols;
 
 /// Whether each of the symbols has a text.
 fn all_there(count: usize, ss: &Symbols) -> bool

@@ -6,7 +6,7 @@ ghost use Rattle.core_terms.specs.View.{pat_fields_tree, pat_form_tree, pat_tree
 
 use crate::constructors::names_there;
 use crate::literals::{number_fits, text_fits};
-use core_terms::pat::{Pat, PatField, PatFields, PatForm};
+use core_terms::{Pat, PatField, PatFields, PatForm};
 
 /// Whether each name in a pattern is one of so many symbols.
 #[cycle(pattern_fits)]

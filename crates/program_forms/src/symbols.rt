@@ -9,10 +9,8 @@ ghost use Rattle.core_typing.specs.Declarations.{datatypes};
 ghost use Rattle.core_typing.specs.Scopes.{datatype_kinds, folder_kinds};
 ghost use Rattle.program_forms.specs.Symbols.{KindsDiffer, SymbolsDiffer, unmarked};
 
-use con_terms::kind::{Kind, same_kind};
-use core_terms::Program;
-use core_terms::decl::{Decl, Decls};
-use core_terms::program::Folders;
+use con_terms::{Kind, same_kind};
+use core_terms::{Decl, Decls, Folders, Program};
 use std::alloc::{AllocError, Global};
 
 /// The symbols of the types that every program has: those that are no datatypes, and then the datatypes.

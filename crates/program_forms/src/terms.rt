@@ -13,7 +13,7 @@ ghost use Rattle.program_forms.specs.Elements.{element_tree};
 use crate::constructors::{field_names_there, names_there};
 use crate::literals::{number_fits, text_fits};
 use crate::patterns::pattern_fits;
-use core_terms::exp::{
+use core_terms::{
     Attribute, Attributes, Branch, Branches, Element, Exp, Exps, Field, Fields, Form, InputName,
     Item, Items, Local, Locals, Named, NamedList, Node, Nodes,
 };

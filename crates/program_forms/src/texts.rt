@@ -5,11 +5,10 @@ ghost use Rattle.core_terms.specs.Names.{basis_texts};
 ghost use Rattle.core_typing.specs.Accepts.{TextsDiffer};
 ghost use Rattle.link_router.specs.RouteLaws.{IsPlain};
 
-use con_terms::laws::symbols_are_texts;
-use con_terms::symbol::SymTable;
+use con_terms::{SymTable, symbols_are_texts};
 use std::alloc::{AllocError, Global};
 use table_rows::{Text, Texts};
-use type_makers::symbols::basis_names;
+use type_makers::basis_names;
 
 /// Whether two texts are one.
 fn is_same(a: &Text, b: &Text) -> bool

@@ -5,9 +5,7 @@ ghost use Rattle.core_terms.specs.View.{decl_tree, decls_view, named_from, named
 ghost use Rattle.core_typing.specs.Declarations.{named_values, values};
 ghost use Rattle.program_forms.specs.Values.{DeclStands, Stands, values_counted};
 
-use core_terms::decl::{Decl, Decls, Thing};
-use core_terms::exp::{Named, NamedList};
-use core_terms::names::Symbols;
+use core_terms::{Decl, Decls, Named, NamedList, Symbols, Thing};
 
 /// Whether no structure stands around a declaration.
 fn is_outside(path: &Symbols) -> bool

@@ -8,4 +8,6 @@ pub mod projects;
 pub mod words;
 
 pub use directives::Directive;
+pub use laws::{projects_have_one_answer, refusals_have_one_line};
+pub use lines::first_line;
 pub use projects::{AddressRule, Project, ProjectFault, QualifiedName, read_project};

@@ -1,4 +1,4 @@
--- What faults say, and what files tell.
+-- What faults say, and what is so of the files that are told (for Gathering, Naming, `read_in` and others).
 mod Saying
 -- What is read of a file (for `reading`).
 mod Fronts
@@ -8,11 +8,11 @@ mod Texts
 mod Names
 -- Names among others (for `is_among` and `knows_foreign`).
 mod Foreign
--- The files in a folder and their names.
+-- The files in a folder and their names (for Naming).
 mod Folders
 -- From a folder's names and its project file to what it says (for `project_name` and `read_project_file`).
 mod Naming
--- From the files of a module to the module, or to why there is none.
+-- From the files of a module to the module, or to why there is none (for Gathering).
 mod Files
 -- From what was read of a module's files to the module, and to the project (for `projects`).
 mod Gathering

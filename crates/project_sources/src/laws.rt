@@ -2,9 +2,9 @@
 ghost use Rattle.project_sources.specs.Projects.{FoldersHaveOneAnswer, RefusalsHaveOneCause};
 ghost use Rattle.project_sources.specs.Texts.{ModulesHaveOneAnswer};
 
-use grammar_engine::laws::{one_refusal, one_whole_tree, trees_are_not_refused};
-use project_files::laws::{projects_have_one_answer, refusals_have_one_line};
-use ur_lexer::laws::texts_have_one_reading;
+use grammar_engine::{one_refusal, one_whole_tree, trees_are_not_refused};
+use project_files::{projects_have_one_answer, refusals_have_one_line};
+use ur_lexer::texts_have_one_reading;
 
 /// A folder holds one project at most, and isn't refused where it holds one.
 pub fn folders_have_one_answer()

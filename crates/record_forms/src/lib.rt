@@ -2,3 +2,5 @@
 #![tactic(auto)]
 
 pub mod records;
+
+pub use records::{RecordAfter, of_record, of_record_rest};

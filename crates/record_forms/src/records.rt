@@ -1,17 +1,14 @@
 //! Records, field by field.
-use call_parts::calls::record_of;
-use con_terms::con::{Con, Cons};
-use con_terms::kind::Kind;
-use con_terms::place::Place;
+use call_parts::record_of;
+use con_terms::{Con, Cons, Kind, Place};
 use name_scopes::ElabFault;
-use open_terms::env::Env;
-use open_terms::memory::{add, on_heap};
-use open_terms::pending::{Core, Outcome, Pending, RecField, RecRest, later};
-use open_terms::rows::{field_type, record_pieces, reduced_name};
-use open_terms::want::{Want, may_grow, whole};
+use open_terms::{
+    Core, Env, Outcome, Pending, RecField, RecRest, Want, add, field_type, later, may_grow,
+    on_heap, record_pieces, reduced_name, whole,
+};
 use plain_tree::Fields;
 use std::alloc::{AllocError, Global};
-use term_parts::progress::{Part, Progress, Sought, ask, below, term};
+use term_parts::{Part, Progress, Sought, ask, below, term};
 
 /// A record with its fields so far.
 #[derive(Drop)]

@@ -1,8 +1,6 @@
 //! Short ways to build constructors.
 
-use con_terms::con::{Con, Pair, Pairs};
-use con_terms::kind::Kind;
-use con_terms::symbol::Sym;
+use con_terms::{Con, Kind, Pair, Pairs, Sym};
 use std::alloc::{AllocError, Global};
 
 /// `int`

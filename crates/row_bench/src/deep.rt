@@ -1,8 +1,9 @@
 //! Constructors as deep as may be and one deeper, of each form, on the program's stack and on those of threads.
 
 use crate::build::{Nested, nest};
-use con_terms::kind::Kind;
-use row_normal::normal::{DEPTH, Fuel, NormalFault, normal};
+use con_terms::Kind;
+use row_normal::normal::normal;
+use row_normal::{DEPTH, Fuel, NormalFault};
 use std::alloc::Global;
 use std::sync::Wait;
 use std::thread;

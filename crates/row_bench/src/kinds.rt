@@ -2,13 +2,11 @@
 
 use crate::build::{INT, fields};
 use anyhow::Context;
-use con_terms::con::Con;
-use con_terms::kind::Kind;
-use con_terms::place::Place;
-use con_terms::symbol::Sym;
+use con_terms::{Con, Kind, Place, Sym};
 use kind_rules::kinding::kind_of;
 use kind_rules::scope::{Basic, Scope};
-use row_normal::normal::{Fuel, normal};
+use row_normal::Fuel;
+use row_normal::normal::normal;
 use std::alloc::Global;
 use std::time::{Clock, Instant};
 

@@ -2,9 +2,9 @@
 
 use crate::build::{OPTION, app, cat, fields, lambda, map};
 use anyhow::Context;
-use con_terms::con::Con;
-use con_terms::kind::Kind;
-use row_normal::normal::{Fuel, normal};
+use con_terms::{Con, Kind};
+use row_normal::Fuel;
+use row_normal::normal::normal;
 use std::alloc::Global;
 use std::time::{Clock, Instant};
 

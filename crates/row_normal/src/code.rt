@@ -5,8 +5,7 @@ ghost use Rattle.con_terms.specs.View.{con_tree, cons_tree, kind_tree, kinds_tre
 ghost use Rattle.row_normal.specs.Glue.{literal_of, name_of};
 ghost use Rattle.row_normal.specs.Ordered.{con_code as tree_code, cons_code as trees_code, cons_count, flag_code, kind_code as kind_numbers, kinds_code as kinds_numbers, kinds_count, pairs_code as fields_code, pairs_count, piece_key as place, piece_rank};
 
-use con_terms::con::{Con, Cons, Pair, Pairs};
-use con_terms::kind::{Kind, Kinds};
+use con_terms::{Con, Cons, Kind, Kinds, Pair, Pairs};
 use std::alloc::{AllocError, Global};
 
 /// How many numbers most keys have room in.

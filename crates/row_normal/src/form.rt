@@ -7,7 +7,7 @@ ghost use Rattle.row_normal.specs.NormalForm.{IsNormal, is_normal};
 ghost use Rattle.row_normal.specs.Ordered.{ordered};
 ghost use Rattle.std.proofs.Props.{props};
 
-use con_terms::con::Con;
+use con_terms::Con;
 
 /// A constructor in normal form. Contracts see it as the tree `normal_tree`.
 #[derive(Drop)]

@@ -10,8 +10,7 @@ ghost use Rattle.row_normal.specs.Ordered.{glued, joined as joined_by, sorted};
 use crate::build::{self, boxed};
 use crate::code::literal_name;
 use crate::piece::Piece;
-use con_terms::con::{Con, Pairs};
-use con_terms::kind::{Kind, same_kind};
+use con_terms::{Con, Kind, Pairs, same_kind};
 use std::alloc::{AllocError, Global};
 
 /// The pieces joined so far.

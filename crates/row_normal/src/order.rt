@@ -12,8 +12,7 @@ use crate::build::{kind_box, put};
 use crate::glue::in_order;
 use crate::piece::Piece;
 use crate::settled::names_rise;
-use con_terms::con::{Con, Cons, Pair, Pairs};
-use con_terms::kind::{Kind, copy_kind};
+use con_terms::{Con, Cons, Kind, Pair, Pairs, copy_kind};
 use std::alloc::{AllocError, Global};
 use std::mem;
 

@@ -6,7 +6,7 @@ ghost use Rattle.row_normal.specs.Ordered.{piece_key as place};
 ghost use Rattle.std.proofs.Props.{props};
 
 use crate::code::piece_key;
-use con_terms::con::Con;
+use con_terms::Con;
 use std::alloc::{AllocError, Global};
 
 /// A piece of a row, with that by which it is placed. Contracts see it as the tree `piece_tree`.

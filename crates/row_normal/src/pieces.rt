@@ -9,8 +9,7 @@ ghost use Rattle.row_normal.specs.Pieces.{IsInOrder, written_fields, written_pie
 
 use crate::glue::{concatenated, with_literals_joined};
 use crate::order::single;
-use con_terms::con::{Con, Cons, Pairs};
-use con_terms::kind::Kind;
+use con_terms::{Con, Cons, Kind, Pairs};
 use std::alloc::{AllocError, Global};
 
 /// The pieces of a row, as written: each field of a literal is one, as a literal of its own.

@@ -4,8 +4,7 @@ ghost use Rattle.std.specs.Prelude.{◌≡◌, ◌&&◌};
 ghost use Rattle.con_terms.specs.View.{con_tree, cons_tree, pair_tree, pairs_tree};
 ghost use Rattle.row_normal.specs.SameTree.{cn_eq, cns_eq, flag_eq, prs_eq};
 
-use con_terms::con::{Con, Cons, Pair, Pairs};
-use con_terms::kind::same_kind;
+use con_terms::{Con, Cons, Pair, Pairs, same_kind};
 
 /// Whether two constructors are one tree.
 #[cycle(same_con)]

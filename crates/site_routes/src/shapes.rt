@@ -14,15 +14,14 @@ ghost use Rattle.site_routes.specs.Shaping as computed;
 ghost use Rattle.site_routes.specs.View.{field_view, maybe_case, maybe_cases, maybe_part};
 ghost use Rattle.site_routes.specs.View.{maybe_parts, maybe_shapes, part_view};
 
-use con_terms::con::{Con, Cons, Pair, Pairs};
-use con_terms::copy::copy_con;
-use con_terms::symbol::Sym;
+use con_terms::{Con, Cons, Pair, Pairs, Sym, copy_con};
 use core_terms::{Constructor, Constructors, Datatype};
 use judgements::normal_of;
-use match_cover::seen::{Seen, see};
+use match_cover::{Seen, see};
 use std::alloc::{AllocError, Global};
-use table_rows::shape::Datatype as ShapedData;
-use table_rows::{Arguments, Case, Datatypes, Part, Parts, Shape, Text, Texts};
+use table_rows::{
+    Arguments, Case, Datatype as ShapedData, Datatypes, Part, Parts, Shape, Text, Texts,
+};
 use type_makers::symbols;
 
 /// How deep types may be nested.

@@ -6,10 +6,7 @@ ghost use Rattle.core_typing.specs.Declarations.{named_values, values as values_
 ghost use Rattle.site_routes.specs.Linked.{decl_values, linked, name_in, named_value};
 ghost use Rattle.site_routes.specs.View.{value_view};
 
-use con_terms::con::Con;
-use con_terms::copy::copy_con;
-use con_terms::place::Place;
-use con_terms::symbol::Sym;
+use con_terms::{Con, Place, Sym, copy_con};
 use core_terms::{Decl, Named, NamedList, Program, Symbols};
 use std::alloc::{AllocError, Global};
 use table_rows::{Text, Texts};

@@ -5,7 +5,7 @@ ghost use Rattle.core_terms.specs.View.{foreign_view, rule_view};
 ghost use Rattle.row_normal.specs.SameTree.{flag_eq};
 ghost use Rattle.source_terms.specs.Alike.{each, effect_eq, rule_eq};
 
-use core_terms::program::{ForeignName, Foreigns, Rule, Rules};
+use core_terms::{ForeignName, Foreigns, Rule, Rules};
 use table_rows::{Text, Texts};
 
 /// Whether two texts are one.

@@ -16,7 +16,7 @@ use crate::forms::{is_built, is_given, is_value};
 use crate::leaves::is_sigil;
 use crate::standing::{is_left, none_left, standing};
 use crate::tasks::{Task, ask};
-use core_terms::exp::{Exp, Form, Item, Items};
+use core_terms::{Exp, Form, Item, Items};
 use plain_tree::{Path, Sigil};
 use source_names::Here;
 use std::alloc::{AllocError, Global};

@@ -15,7 +15,7 @@ ghost use Rattle.source_terms.specs.Terms.{reads_operator, reads_or, reads_term}
 use crate::forms::{is_bare_of, is_basis_builder, is_operator};
 use crate::standing::{only_branch, standing, two_left};
 use crate::tasks::{Task, ask};
-use core_terms::exp::{Exp, Form, Sigil};
+use core_terms::{Exp, Form, Sigil};
 use plain_tree::{BasisBuilder, Infix, Link, Links};
 use source_names::{Here, reads_con};
 use std::alloc::{AllocError, Global};

@@ -11,8 +11,7 @@ ghost use Rattle.source_terms.specs.Alike.{each};
 ghost use Rattle.source_terms.specs.Declarations as goal;
 
 use crate::declarations::is_at_top;
-use con_terms::con::Con;
-use con_terms::symbol::Sym;
+use con_terms::{Con, Sym};
 use core_terms::{Constructor, Constructors, Datatype, Program, Symbols};
 use plain_tree as plain;
 use source_names::{Here, Known, is_text, reads_con};

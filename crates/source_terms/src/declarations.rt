@@ -15,7 +15,7 @@ ghost use Rattle.source_terms.specs.Terms.{reads_group, reads_named};
 
 use crate::datatypes::is_datatype;
 use crate::terms::{is_group, is_named};
-use con_terms::kind::{Kind, same_kind};
+use con_terms::{Kind, same_kind};
 use core_terms::{ConDecl, Decl, Named, NamedList, Program, Symbols};
 use plain_tree as plain;
 use source_names::{Here, Known, is_text, reads_con};

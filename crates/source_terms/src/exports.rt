@@ -5,7 +5,7 @@ ghost use Rattle.source_names.specs.View.{value_view};
 ghost use Rattle.source_terms.specs.Programs as goal;
 ghost use Rattle.source_terms.specs.Selected as selection;
 
-use con_terms::symbol::SymTable;
+use con_terms::SymTable;
 use source_names::KnownValue;
 use std::alloc::{AllocError, Global};
 use table_rows::{Text, Texts};

@@ -10,10 +10,8 @@ ghost use Rattle.source_terms.specs.Leaves as leaves;
 ghost use Rattle.source_terms.specs.Left.{left};
 ghost use Rattle.source_terms.specs.Terms as terms;
 
-use con_terms::con::Con;
-use core_terms::basis::BasisName;
-use core_terms::exp::{ConOrigin, Form, InputName};
-use core_terms::pat::{Pat, PatForm};
+use con_terms::Con;
+use core_terms::{BasisName, ConOrigin, Form, InputName, Pat, PatForm};
 use plain_tree::{Basis, BasisBuilder, ConForm, Infix, Path};
 use source_names::{Here, names_basis_builder, names_builder, names_value, reads_con};
 use std::alloc::{AllocError, Global};

@@ -16,8 +16,8 @@ ghost use Rattle.source_terms.specs.Terms.{reads_form, reads_group, reads_locals
 
 use crate::scopes::{inside_group, name_of, share};
 use crate::tasks::{Task, ask};
-use con_terms::con::Con;
-use core_terms::exp::{Exp, Form, Local, Locals, Named, NamedList};
+use con_terms::Con;
+use core_terms::{Exp, Form, Local, Locals, Named, NamedList};
 use source_names::{Here, is_text, reads_con};
 use std::alloc::{AllocError, Global};
 

@@ -10,8 +10,8 @@ ghost use Rattle.source_terms.specs.Parts.{reads_pat_field};
 ghost use Rattle.source_terms.specs.Patterns as patterns;
 
 use crate::leaves::{is_number, is_words};
-use con_terms::symbol::Sym;
-use core_terms::pat::{Pat, PatField, PatFields, PatForm};
+use con_terms::Sym;
+use core_terms::{Pat, PatField, PatFields, PatForm};
 use plain_tree::Builder;
 use source_names::{Here, is_text, names_basis_builder, names_builder, reads_con};
 use std::alloc::{AllocError, Global};

@@ -8,7 +8,7 @@ ghost use Rattle.source_terms.specs.Leaves.{form_of};
 ghost use Rattle.source_terms.specs.Left as specs;
 ghost use Rattle.source_terms.specs.Parts as parts;
 
-use core_terms::exp::{Branch, Branches, ConOrigin, Exp, Form, Item, Items, Sigil};
+use core_terms::{Branch, Branches, ConOrigin, Exp, Form, Item, Items, Sigil};
 
 /// Whether an item of a call was written.
 pub fn is_left(item: &Item) -> bool

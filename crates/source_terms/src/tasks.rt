@@ -9,7 +9,7 @@ ghost use Rattle.source_terms.specs.Tasks.{all_read};
 ghost use Rattle.source_terms.specs.Terms.{reads_term};
 
 use crate::scopes::share;
-use core_terms::exp::Exp;
+use core_terms::Exp;
 use source_names::Here;
 use std::alloc::AllocError;
 

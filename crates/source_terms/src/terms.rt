@@ -22,7 +22,7 @@ use crate::lets::{are_names, is_let, is_name};
 use crate::markup::is_page;
 use crate::standing::standing;
 use crate::tasks::{Task, ask};
-use core_terms::exp::{Exp, Field, Fields, Form, Named, NamedList};
+use core_terms::{Exp, Field, Fields, Form, Named, NamedList};
 use source_names::{Here, reads_con};
 use std::alloc::{AllocError, Global};
 use table_rows::Text;

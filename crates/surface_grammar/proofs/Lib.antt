@@ -1,8 +1,8 @@
--- `words.accepts`: kinds are compared by their numbers
+-- The number of a kind is its place among the kinds (for `words.is_same`, and so for `words.accepts`).
 pub mod Codes
--- each law of all forms, here and above
+-- Every form of the grammar, so that a law of all forms is one computation (for Listed, and for grammar_engine).
 pub mod Every
--- `laws.words_are_computed`
+-- However many trees lie within each other, a form begins with no other word (law `words_are_computed`).
 pub mod Firsts
--- each law of all forms that speaks of the words with which they begin, above
+-- Laws of the words with which forms begin, computed over a list of these words (for grammar_engine).
 pub mod Listed

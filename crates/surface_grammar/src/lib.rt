@@ -32,4 +32,5 @@ pub use part::Part;
 pub use patterns::PatRule;
 pub use queries::SqlRule;
 pub use rule::Rule;
+pub use sides::is_tag;
 pub use tree::{Mark, Tree};

@@ -12,4 +12,4 @@ pub use bytes::Bytes;
 pub use shape::{Arguments, Case, Datatype, Datatypes, Part, Parts, Shape};
 pub use text::Text;
 pub use texts::Texts;
-pub use wire::{Wire, Wires};
+pub use wire::{Wire, Wires, copy_wires};

@@ -1,12 +1,9 @@
 //! Parts that were open, as they begin once more.
 use name_scopes::ElabFault;
-use open_terms::memory::on_heap;
-use open_terms::pending::Pending;
-use open_terms::want::Want;
-use plain_forms::frames::{Around, FrameAfter};
+use open_terms::{Pending, Want, on_heap};
+use plain_forms::{Around, FrameAfter};
 use std::alloc::Global;
-use term_parts::parameters::want_inside;
-use term_parts::progress::{Part, Progress, ask};
+use term_parts::{Part, Progress, ask, want_inside};
 
 /// A term that was open and has something around it: the open part first.
 pub fn around<'a>(

@@ -2,28 +2,19 @@
 //!
 //! Each form has a loop of its own, so that no function has to know the states of all forms.
 use crate::begun::around;
-use call_forms::calls;
-use call_forms::calls::{CallAfter, of_call, of_name, run, settle};
-use chain_forms::chains;
-use chain_forms::chains::{ChainAfter, of_chain};
-use con_terms::con::Con;
+use call_forms::{CallAfter, calls, of_call, of_name, run, settle};
+use chain_forms::{ChainAfter, chains, of_chain};
+use con_terms::Con;
 use name_scopes::ElabFault;
-use open_terms::env::Env;
-use open_terms::leaves::{number, words};
-use open_terms::pending::{Core, Outcome, Pending};
-use open_terms::want::{Typed, Want, boxed_copy};
-use page_forms::literals;
-use page_forms::literals::{of_page, of_xml};
-use page_forms::placing::PageAfter;
-use plain_forms::frames::{FrameAfter, of_case};
-use plain_forms::functions::{of_fn, of_fn_rest};
-use plain_forms::lets::{LetAfter, of_let, of_typed};
-use plain_forms::{frames, lets};
+use open_terms::{Core, Env, Outcome, Pending, Typed, Want, boxed_copy, number, words};
+use page_forms::{PageAfter, literals, of_page, of_xml};
+use plain_forms::{
+    FrameAfter, LetAfter, frames, lets, of_case, of_fn, of_fn_rest, of_let, of_typed,
+};
 use plain_tree::{Exp, Form};
-use record_forms::records;
-use record_forms::records::{RecordAfter, of_record, of_record_rest};
+use record_forms::{RecordAfter, of_record, of_record_rest, records};
 use std::alloc::Global;
-use term_parts::progress::{Asked, Part, Progress, Sought, settled, term};
+use term_parts::{Asked, Part, Progress, Sought, settled, term};
 
 /// A term of the source as a term of the explicit language, with its type. It and what it is built of nest at most
 /// `room` deep; what would nest deeper counts as want of memory.

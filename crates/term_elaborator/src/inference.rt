@@ -1,10 +1,9 @@
 //! The inference of terms, as the elaboration of declarations asks for it.
 use crate::elab::elaborate_term;
-use con_terms::con::Con;
+use con_terms::Con;
 use name_scopes::ElabFault;
-use open_terms::want::Typed;
-use program_elaborator::terms::Env;
-use program_elaborator::{Terms, TypedTerm};
+use open_terms::Typed;
+use program_elaborator::{Env, Terms, TypedTerm};
 use std::alloc::{AllocError, Global};
 use term_parts::signature_of;
 

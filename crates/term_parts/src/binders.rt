@@ -1,17 +1,10 @@
 //! What stands around a term put around it, once the term is known.
-use con_terms::con::Con;
-use con_terms::copy::copy_con;
-use con_terms::kind::{Kind, copy_kind};
-use con_terms::place::Place;
-use con_terms::symbol::Sym;
+use con_terms::{Con, Kind, Place, Sym, copy_con, copy_kind};
 use core_terms::{Branch, Branches, Exp, Form, Locals, Pat, PatForm};
 use name_scopes::KnownBuilder;
-use open_terms::heads::node;
-use open_terms::memory::on_heap;
-use open_terms::pending::CaseRest;
-use open_terms::want::Typed;
+use open_terms::{CaseRest, Typed, node, on_heap};
 use std::alloc::{AllocError, Global};
-use type_makers::forms::{arrow, guarded, poly};
+use type_makers::{arrow, guarded, poly};
 
 /// `fn p => e`
 #[inline(never)]

@@ -8,4 +8,11 @@ pub mod patterns;
 pub mod progress;
 pub mod signatures;
 
+pub use binders::{
+    around_case, around_con, around_fn, around_guard, around_let, ascribed, bare_branch,
+    two_branches,
+};
+pub use parameters::{Entered, enter, want_inside};
+pub use patterns::{pattern, with_bound};
+pub use progress::{Asked, Becomes, Part, Progress, Sought, ask, below, raised, settled, term};
 pub use signatures::signature_of;

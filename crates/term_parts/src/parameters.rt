@@ -1,16 +1,11 @@
 //! Parameters of functions.
 use crate::patterns::{own_type, pattern, with_bound};
-use con_terms::con::Con;
-use con_terms::copy::copy_con;
-use con_terms::kind::{Kind, copy_kind};
-use con_terms::place::Place;
+use con_terms::{Con, Kind, Place, copy_con, copy_kind};
 use name_scopes::ElabFault;
-use open_terms::env::{Env, Side};
-use open_terms::faults::{any_function, not_wanted};
-use open_terms::memory::on_heap;
-use open_terms::pending::Frame;
-use open_terms::types::{head_of, kept};
-use open_terms::want::{Want, after_con, after_guard, after_term, copy_want};
+use open_terms::{
+    Env, Frame, Side, Want, after_con, after_guard, after_term, any_function, copy_want, head_of,
+    kept, not_wanted, on_heap,
+};
 use plain_tree::Arg;
 use std::alloc::{AllocError, Global};
 

@@ -1,25 +1,17 @@
 //! Patterns, matched with a type.
 use con_nodes::{MOST, left_with_all, nodes};
-use con_terms::con::{Con, Cons, Pair, Pairs};
-use con_terms::copy::copy_con;
-use con_terms::kind::Kind;
-use con_terms::place::Place;
-use con_terms::symbol::Sym;
+use con_terms::{Con, Cons, Kind, Pair, Pairs, Place, Sym, copy_con};
 use core_terms::{Pat, PatField, PatFields, PatForm};
 use name_scopes::{ElabFault, KnownBuilder};
-use open_terms::env::Env;
-use open_terms::faults::{any_record, mismatch, not_wanted, record_of_pairs, unbound};
-use open_terms::leaves::number_of;
-use open_terms::memory::on_heap;
-use open_terms::rows::{field_index, missing_field, record_pieces, reduced_name, value_at};
-use open_terms::types::{head_of, normal_of};
+use open_terms::{
+    Env, any_record, field_index, head_of, mismatch, missing_field, normal_of, not_wanted,
+    number_of, on_heap, record_of_pairs, record_pieces, reduced_name, unbound, value_at,
+};
 use plain_tree::Builder;
 use std::alloc::{AllocError, Global};
 use table_rows::Text;
-use type_faults::fault::Fault;
-use type_makers::forms::{applied, arrow};
-use type_makers::held_at;
-use type_makers::types::{int_type, string_type, unit_type};
+use type_faults::Fault;
+use type_makers::{applied, arrow, held_at, int_type, string_type, unit_type};
 
 /// A variable of a pattern, with its type.
 #[derive(Drop)]

@@ -1,11 +1,7 @@
 //! How far a term is: it ended, or it asks for a part before it goes on.
-use con_terms::place::Place;
+use con_terms::Place;
 use name_scopes::ElabFault;
-use open_terms::env::Env;
-use open_terms::memory::on_heap;
-use open_terms::open_places::open_place;
-use open_terms::pending::{Call, Outcome, Pending};
-use open_terms::want::{Typed, Want};
+use open_terms::{Call, Env, Outcome, Pending, Typed, Want, on_heap, open_place};
 use plain_tree::Exp;
 use std::alloc::{AllocError, Global};
 

@@ -1,13 +1,11 @@
 //! The type of a function as far as it is written, which its own group sees.
 use crate::patterns::own_type;
-use con_terms::con::Con;
-use con_terms::kind::{Kind, copy_kind};
+use con_terms::{Con, Kind, copy_kind};
 use name_scopes::ElabFault;
-use open_terms::env::{Env, Side};
-use open_terms::memory::{add, on_heap};
+use open_terms::{Env, Side, add, on_heap};
 use plain_tree::{Arg, Args, Exp, Form};
 use std::alloc::{AllocError, Global};
-use type_makers::forms::{arrow, guarded, poly};
+use type_makers::{arrow, guarded, poly};
 
 /// What a parameter adds to the type of what is behind it.
 #[derive(Drop)]

@@ -2,7 +2,7 @@
 ghost use Rattle.std.specs.Prelude.{◌↔◌, IsTrue};
 ghost use Rattle.core_typing.specs.Faults.{Earlier};
 
-use con_terms::place::Place;
+use con_terms::Place;
 
 /// Whether a place stands before another: by file, and then by byte.
 pub fn stands_before(place: Place, other: Place) -> bool

@@ -1,12 +1,9 @@
 //! What is told of a program, as values.
 //!
 //! A fault that keeps constructors keeps what the constructor variables in scope are called, the innermost first.
-use con_terms::con::Con;
-use con_terms::kind::Kind;
-use con_terms::place::Place;
-use con_terms::symbol::Sym;
+use con_terms::{Con, Kind, Place, Sym};
 use core_terms::{AttrName, Symbols};
-use disjoint_prover::fault::Pieces;
+use disjoint_prover::Pieces;
 use kind_rules::flaw::Differing;
 use table_rows::{Text, Texts};
 

@@ -10,9 +10,7 @@ ghost use Rattle.told_faults.specs.Computed.{flawed as flawed_in};
 ghost use Rattle.type_faults.specs.View.{fault_tree, maybe_fault};
 
 use crate::fault::{Fault, Name, Types};
-use con_terms::con::Con;
-use con_terms::kind::Kind;
-use con_terms::place::Place;
+use con_terms::{Con, Kind, Place};
 use core_terms::Symbols;
 use kind_rules::flaw::Flaw;
 use std::alloc::{AllocError, Global};

@@ -5,7 +5,7 @@ ghost use Rattle.told_faults.specs.Computed.{first as first_in, sooner as sooner
 ghost use Rattle.type_faults.specs.View.{fault_tree, maybe_fault};
 
 use crate::fault::Fault;
-use con_terms::place::Place;
+use con_terms::Place;
 
 /// Where a fault stands.
 pub fn place_of(f: &Fault) -> Place

@@ -15,7 +15,7 @@ use crate::types::{
     url_type,
 };
 use crate::{forms, queries, symbols};
-use con_terms::con::Con;
+use con_terms::Con;
 use core_terms::BasisName;
 use std::alloc::{AllocError, Global};
 

@@ -9,8 +9,7 @@ use crate::lookups::{TYPES, VALUES, type_among, value_among};
 use crate::made::{arrow_kind, basic, row_kind, types_kind, units_kind};
 use crate::symbols;
 use crate::types::{body_type, page_type, table_type, tr_type, unit_type};
-use con_terms::con::Con;
-use con_terms::kind::Kind;
+use con_terms::{Con, Kind};
 use core_terms::{BasisName, TypeName};
 use std::alloc::{AllocError, Global};
 

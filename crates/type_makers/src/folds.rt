@@ -8,9 +8,7 @@ use crate::made::{
     applied, arrow, arrow_kind, basic_at, empty_row, field_row, guarded, joined, names_kind, poly,
     row_kind, types_kind, unit_con, units_kind, var,
 };
-use con_terms::con::Con;
-use con_terms::kind::{Kind, copy_kind};
-use con_terms::symbol::Sym;
+use con_terms::{Con, Kind, Sym, copy_kind};
 use std::alloc::{AllocError, Global};
 
 /// `{kind}`, of a copy of the kind

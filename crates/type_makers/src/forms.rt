@@ -5,8 +5,7 @@ ghost use Rattle.con_terms.specs.Trees as tree;
 ghost use Rattle.con_terms.specs.View.{con_tree, kind_tree};
 
 use crate::made;
-use con_terms::con::{Con, Pair};
-use con_terms::kind::Kind;
+use con_terms::{Con, Kind, Pair};
 use std::alloc::{AllocError, Global};
 
 /// `from -> to`

@@ -8,9 +8,7 @@ ghost use Rattle.con_terms.specs.Trees.{Cn, Kd, Prs};
 ghost use Rattle.con_terms.specs.View.{con_tree, kind_tree, pairs_tree};
 ghost use Rattle.type_makers.specs.Made.{Makes, MakesKind, MakesPair, MakesPairs};
 
-use con_terms::con::{Con, Pair, Pairs};
-use con_terms::kind::Kind;
-use con_terms::symbol::Sym;
+use con_terms::{Con, Kind, Pair, Pairs, Sym};
 use std::alloc::{AllocError, Global};
 
 /// Both parts, where both were made.

@@ -11,7 +11,7 @@ use crate::made::{
     row_kind, two_field_row, types_kind, units_kind, var,
 };
 use crate::symbols;
-use con_terms::con::Con;
+use con_terms::Con;
 use std::alloc::{AllocError, Global};
 
 /// `transaction t`

@@ -13,7 +13,7 @@ use crate::made_types::{
 };
 use crate::symbols;
 use crate::types::{dml_type, int_type, sequence_type, unit_type};
-use con_terms::con::Con;
+use con_terms::Con;
 use std::alloc::{AllocError, Global};
 
 /// `ts ::: {{Type}} -> es ::: {Type} -> [ts ~ es] => body`

@@ -3,7 +3,7 @@ ghost use Rattle.std.specs.Prelude.{◌≡◌, [], map, IfOk};
 ghost use Rattle.core_terms.specs.Names.{basis_texts};
 ghost use Rattle.type_makers.specs.Tables.{put_texts};
 
-use con_terms::symbol::{Sym, SymTable};
+use con_terms::{Sym, SymTable};
 use std::alloc::{AllocError, Global};
 use table_rows::{Text, Texts};
 

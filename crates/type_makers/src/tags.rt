@@ -14,8 +14,7 @@ use crate::made::{arrow, record};
 use crate::made_types::transaction;
 use crate::symbols;
 use crate::types::{int_type, one_unit, page_type, string_type, two_units, url_type};
-use con_terms::con::Con;
-use con_terms::symbol::Sym;
+use con_terms::{Con, Sym};
 use core_terms::{AttrName, TagName};
 use std::alloc::{AllocError, Global};
 

@@ -5,8 +5,7 @@ ghost use Rattle.core_terms.specs.Types as meant;
 
 use crate::made::{self, basic_at};
 use crate::{made_types, symbols};
-use con_terms::con::Con;
-use con_terms::symbol::Sym;
+use con_terms::{Con, Sym};
 use std::alloc::{AllocError, Global};
 
 /// `int`

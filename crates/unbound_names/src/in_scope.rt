@@ -14,7 +14,7 @@ use crate::declared::{has_builder, has_type, has_value};
 use core_terms::{Foreigns, TypeName};
 use plain_tree::Path;
 use table_rows::Text;
-use type_makers::by_name::{type_named, value_named};
+use type_makers::{type_named, value_named};
 use xml_trees::{AttrName, TagName};
 
 /// Whether one of the values that every program has, but for `fold`, has a name.

@@ -9,10 +9,7 @@ ghost use Rattle.unknowns.specs.View.{found_tree};
 use crate::held::Held;
 use crate::slots::{Slots, Unknown};
 use crate::store::Found;
-use con_terms::con::Con;
-use con_terms::copy::copy_con;
-use con_terms::kind::{Kind, copy_kind};
-use con_terms::size::has_room;
+use con_terms::{Con, Kind, copy_con, copy_kind, has_room};
 use std::alloc::{AllocError, Global};
 use std::mem::replace;
 

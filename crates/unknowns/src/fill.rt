@@ -10,10 +10,8 @@ ghost use Rattle.unknowns.specs.View.{IsTold, found_tree};
 use crate::known::is_known;
 use crate::slots::Slots;
 use crate::store::Found;
-use con_terms::con::Con;
-use con_terms::rebuild::{Replace, rebuild};
-use con_terms::size::{BINDERS, has_room};
-use con_terms::substitute::shift;
+use con_terms::rebuild::rebuild;
+use con_terms::{BINDERS, Con, Replace, has_room, shift};
 use std::alloc::{AllocError, Global};
 
 /// Puts what was found for each unknown, seen from outside of the unknowns.

@@ -4,7 +4,7 @@ ghost use Rattle.con_terms.specs.Size.{HasRoom};
 ghost use Rattle.con_terms.specs.View.{con_tree};
 ghost use Rattle.std.proofs.Props.{props};
 
-use con_terms::con::Con;
+use con_terms::Con;
 
 /// A constructor that has room for a shift.
 #[derive(Drop)]

@@ -7,8 +7,7 @@ ghost use Rattle.unknowns.specs.Unknowns.{known as no_open, known_all, known_pai
 ghost use Rattle.unknowns.specs.View.{found_tree};
 
 use crate::store::Found;
-use con_terms::con::{Con, Cons, Pair, Pairs};
-use con_terms::size::has_room;
+use con_terms::{Con, Cons, Pair, Pairs, has_room};
 use std::alloc::AllocError;
 
 /// Whether no unknown is left in a pattern for which nothing was found. A pattern without room for a shift counts as

@@ -12,7 +12,7 @@ use crate::heads::{alike, apart, head_of, pieces_of};
 use crate::known::is_known;
 use crate::rows::{Whole, only_field, others, rest, take_named};
 use crate::store::Found;
-use con_terms::con::{Con, Cons};
+use con_terms::{Con, Cons};
 use std::alloc::Global;
 
 /// How deep parts of a pattern that hold an open unknown may stand.

@@ -10,10 +10,8 @@ use crate::fill::{filled, told};
 use crate::heads::{apart, equal, pieces_of, same_name};
 use crate::known::is_known;
 use crate::store::Found;
-use con_terms::con::{Con, Cons, Pair, Pairs};
-use con_terms::copy::copy_con;
-use con_terms::kind::{Kind, copy_kind};
-use row_normal::pieces::row_of_pieces_in_order;
+use con_terms::{Con, Cons, Kind, Pair, Pairs, copy_con, copy_kind};
+use row_normal::row_of_pieces_in_order;
 use std::alloc::{AllocError, Global};
 
 /// Both rows, of which a refusal tells.

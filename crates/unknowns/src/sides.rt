@@ -4,7 +4,7 @@ ghost use Rattle.std.specs.Prelude.{◌≢◌};
 ghost use Rattle.row_normal.specs.View.{normal_tree};
 ghost use Rattle.std.proofs.Props.{props};
 
-use row_normal::form::Normal;
+use row_normal::Normal;
 
 /// Two normal forms that differ.
 #[derive(Drop)]

@@ -1,7 +1,7 @@
 //! Unknowns, each with what was found for it.
 
 use crate::held::Held;
-use con_terms::kind::Kind;
+use con_terms::Kind;
 
 /// An unknown: its kind, and what was found for it, as it is seen from outside of the unknowns.
 #[derive(Drop)]

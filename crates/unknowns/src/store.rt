@@ -6,8 +6,7 @@ ghost use Rattle.unknowns.specs.Unknowns.{count_of};
 
 use crate::answers::{answer_in, is_open_in, kind_in, with_unknown};
 use crate::slots::Slots;
-use con_terms::con::Con;
-use con_terms::kind::Kind;
+use con_terms::{Con, Kind};
 use std::alloc::{AllocError, Global};
 use std::mem::replace;
 

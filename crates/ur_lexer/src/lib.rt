@@ -17,4 +17,5 @@ pub mod strings;
 pub mod words;
 
 pub use fault::LexFault;
+pub use laws::texts_have_one_reading;
 pub use lexer::lex;

@@ -1,7 +1,7 @@
 //! Laws of refusals. Their functions do nothing.
 ghost use Rattle.ur_parser.specs.Sources.{ModulesAreNotRefused, ModulesHaveOneFault};
 
-use grammar_engine::laws::{one_refusal, trees_are_not_refused};
+use grammar_engine::{one_refusal, trees_are_not_refused};
 
 /// Tokens that are those of no module have one fault.
 pub fn modules_have_one_fault()

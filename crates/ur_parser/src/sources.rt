@@ -4,7 +4,7 @@ ghost use Rattle.grammar_engine.specs.Single.{OnlyTree};
 ghost use Rattle.surface_grammar.specs.Refusals.{deepest, WholeTree};
 ghost use Rattle.ur_parser.specs.Sources.{IsInterfaceText, IsModuleText, IsNoInterface, IsNoModule, interface_part, module_part};
 
-use grammar_engine::read::read_whole;
+use grammar_engine::read_whole;
 use std::alloc::Global;
 use surface_grammar::{Form, ParseFault, Part, Tree};
 use surface_tree::Tokens;

@@ -14,5 +14,5 @@ mod Datatypes
 mod Steps
 -- Steps, and what they lead to, by what they are (for `value_of`, `moved`).
 mod Turns
--- What wires are read with, for one who has the routes of the program.
+-- What wires are read with, for one who has the routes of the program (no function uses it).
 pub mod Routed

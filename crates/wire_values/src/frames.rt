@@ -2,7 +2,7 @@
 ghost use Rattle.std.specs.Prelude.{◌≡◌, ◌∷◌, [], OnOk, IfSome, IfNone};
 
 use crate::scoped::Closed;
-use con_terms::symbol::Sym;
+use con_terms::Sym;
 use run_values::{Slot, Value};
 use std::alloc::{AllocError, Global};
 use table_rows::{Part, Wire};

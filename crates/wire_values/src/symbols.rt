@@ -8,10 +8,9 @@ ghost use Rattle.core_typing.specs.Declarations.{datatypes};
 ghost use Rattle.wire_values.specs.Known.{symbols_in};
 
 use crate::wires::NoValues;
-use con_terms::symbol::Sym;
+use con_terms::Sym;
 use core_terms::{Decl, Decls, Program};
-use table_rows::shape::Datatype;
-use table_rows::{Case, Text};
+use table_rows::{Case, Datatype, Text};
 use type_makers::symbols::{BOOL, LIST, OPTION};
 
 /// Whether two texts have the same bytes.

@@ -9,6 +9,7 @@ pub mod source_name;
 pub mod tag;
 
 pub use attrs::{Attr, Attrs};
+pub use laws::pieces_are_pages;
 pub use name::Name;
 pub use page::{Page, Piece};
 pub use source_name::{AttrName, TagName};
