@@ -1,8 +1,9 @@
 -- What the line of a refusal says behind its place: the name of the fault, and behind a space what the fault keeps.
 use Rattle.std.specs.Prelude.{◌≡◌, ℕ, List, ◌++◌, codes}
 use Rattle.con_terms.specs.declared.place.Place.{Place}
-use Rattle.core_typing.specs.Faults.{Fault, at, unbound, kind_mismatch, mismatch, not_disjoint, inexhaustive, redeclared, link_not_call, not_serialisable, too_large, not_built}
+use Rattle.core_typing.specs.Faults.{Fault, Unbound, a_variable, a_value, an_effect, a_con_variable, a_symbol, a_constructor, an_attribute, a_folder, an_input_name, at, unbound, kind_mismatch, mismatch, not_disjoint, inexhaustive, redeclared, link_not_call, not_serialisable, too_large, not_built}
 use Rattle.type_faults.specs.View.{fault_tree}
+use Rattle.xml_trees.specs.SourceNames.{attribute_text}
 use Rattle.name_scopes.specs.declared.fault.ElabFault.{ElabFault}
 use Rattle.name_scopes.specs.declared.fault.ElabFault.TheVariants as elab
 
@@ -11,9 +12,22 @@ use Rattle.name_scopes.specs.declared.fault.ElabFault.TheVariants as elab
 abbrev pub IsNamed : List ℕ → List ℕ → Type 0
 IsNamed name text = (more : List ℕ) × (text ≡ (name ++ codes " ") ++ more)
 
+-- The text of a name that isn't bound and that the checker tells: an attribute that its tag hasn't, or an input's name in
+-- no form. All other names inference tells, which has none of these.
+abbrev pub IsUnboundText : Unbound → List ℕ → Type 0
+IsUnboundText (a_variable i) text = ⊥
+IsUnboundText (a_value i) text = ⊥
+IsUnboundText (an_effect i) text = ⊥
+IsUnboundText (a_con_variable i) text = ⊥
+IsUnboundText (a_symbol s) text = ⊥
+IsUnboundText (a_constructor s i) text = ⊥
+IsUnboundText (an_attribute name) text = text ≡ codes "Unbound " ++ attribute_text name
+IsUnboundText (a_folder kind) text = ⊥
+IsUnboundText an_input_name text = text ≡ codes "Unbound _"
+
 -- the text of a fault that the checker tells: its name, alone where the fault keeps nothing
 abbrev pub IsTextOf : Fault → List ℕ → Type 0
-IsTextOf (unbound p name) text = IsNamed (codes "Unbound") text
+IsTextOf (unbound p name) text = IsUnboundText name text
 IsTextOf (kind_mismatch p wanted found) text = IsNamed (codes "KindMismatch") text
 IsTextOf (mismatch p called wanted found) text = IsNamed (codes "Mismatch") text
 IsTextOf (not_disjoint p called left right) text = IsNamed (codes "NotDisjoint") text

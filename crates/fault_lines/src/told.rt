@@ -1,9 +1,9 @@
 //! Faults of elaboration and of the checker.
 ghost use Rattle.std.specs.Prelude.{◌≡◌, ◌++◌, codes, string_bytes, IfOk};
-ghost use Rattle.fault_lines.specs.Lines.{IsNamed, IsTextOf, IsToldOf, IsToldOfElaboration};
-ghost use Rattle.type_faults.specs.View.{fault_tree};
+ghost use Rattle.fault_lines.specs.Lines.{IsNamed, IsTextOf, IsToldOf, IsToldOfElaboration, IsUnboundText};
+ghost use Rattle.type_faults.specs.View.{fault_tree, name_tree};
 
-use crate::names::{twice, unbound};
+use crate::names::twice;
 use crate::shapes::shape;
 use con_terms::Place;
 use core_terms::{Program, Symbols};
@@ -15,7 +15,7 @@ use kind_rules::flaw::Differing;
 use name_scopes::ElabFault;
 use std::alloc::{AllocError, Global};
 use table_rows::Texts;
-use type_faults::{Fault, Shape, Types, place_of};
+use type_faults::{Fault, Name, Shape, Types, place_of};
 
 /// Where a fault stands, and what its line says behind that place.
 #[derive(Drop)]
@@ -96,7 +96,6 @@ fn inexhaustive(
 /// Prints what a fault keeps.
 fn print(style: &Style<'_>, printer: &mut Printer, fault: &Fault) -> Result<(), AllocError> {
     match fault {
-        Fault::Unbound(_, name) => unbound(style, printer, name),
         Fault::KindMismatch(_, kinds) => kind_mismatch(style, printer, kinds),
         Fault::Mismatch(_, called, types) => mismatch(style, printer, called, types),
         Fault::NotDisjoint(_, called, pieces) => not_disjoint(style, printer, called, pieces),
@@ -130,12 +129,27 @@ fn named(alloc: Global, known: &Known, name: &str, fault: &Fault) -> Result<Stri
     Ok(text)
 }
 
+/// The text of a name that isn't bound and that the checker tells. All other names inference tells, so that they count as
+/// want of memory here.
+fn unbound(alloc: Global, name: &Name) -> Result<String, AllocError>
+    ensures { IfOk result (λ text. IsUnboundText (name_tree name.now) (string_bytes text)) }
+{
+    let told = match name {
+        Name::Attribute(attribute) => attribute.as_str(),
+        Name::InputName => "_",
+        _ => return Err(AllocError),
+    };
+    let mut text = "Unbound ".to_string(alloc)?;
+    text.push_str(told)?;
+    Ok(text)
+}
+
 /// The text of a fault.
 fn text_of(alloc: Global, known: &Known, fault: &Fault) -> Result<String, AllocError>
     ensures { IfOk result (λ text. IsTextOf (fault_tree fault.now) (string_bytes text)) }
 {
     match fault {
-        Fault::Unbound(_, _) => named(alloc, known, "Unbound", fault),
+        Fault::Unbound(_, name) => unbound(alloc, name),
         Fault::KindMismatch(_, _) => named(alloc, known, "KindMismatch", fault),
         Fault::Mismatch(_, _, _) => named(alloc, known, "Mismatch", fault),
         Fault::NotDisjoint(_, _, _) => named(alloc, known, "NotDisjoint", fault),
