@@ -5,9 +5,11 @@ ghost use Rattle.plain_tree.specs.ExpView.{exp_tree};
 ghost use Rattle.desugar_values.specs.View.{meaning_tree, meanings_tree};
 ghost use Rattle.desugar_terms.specs.Actions.{bound, bound_rest, exp_bind, exp_plain, term_lambda, then_rest, unit_pattern};
 
+use crate::boxes::{boxed_exp_of, boxed_pat, boxed_pat_of, next_exp};
 use crate::made::{call_two, one_parameter, term_at};
+use desugar_types::boxes::both;
 use desugar_types::parameters::parameters;
-use desugar_values::parts::{exp_of, pat_of, start_of};
+use desugar_values::parts::start_of;
 use desugar_values::{Meaning, Meanings};
 use plain_tree::{Basis, Exp, Form, Pat, PatFields, PatForm};
 use std::alloc::{AllocError, Global};
@@ -17,12 +19,13 @@ fn bound(
     alloc: Global,
     start: u32,
     at: u32,
-    x: Exp,
+    x: Box<Exp>,
     place: u32,
-    pat: Pat,
-    y: Exp,
+    pat: Box<Pat>,
+    y: Box<Exp>,
 ) -> Result<Meaning, AllocError>
-    ensures { IfOk result (λ m. meaning_tree m ≡ bound start at (exp_tree x) place (pat_tree pat) (exp_tree y)) }
+    ensures { IfOk result (λ m. meaning_tree m
+        ≡ bound start at (exp_tree x.value) place (pat_tree pat.value) (exp_tree y.value)) }
 {
     let next = one_parameter(alloc, place, pat, y)?;
     let form = call_two(alloc, at, Basis::Bind, x, next)?;
@@ -30,14 +33,19 @@ fn bound(
 }
 
 /// `"<-" Body ";" Exp`, behind a pattern.
-fn bound_rest(alloc: Global, start: u32, pat: Pat, rest: Meanings) -> Result<Meaning, AllocError>
-    ensures { IfOk result (λ m. meaning_tree m ≡ bound_rest start (pat_tree pat) (meanings_tree rest)) }
+fn bound_rest(
+    alloc: Global,
+    start: u32,
+    pat: Box<Pat>,
+    rest: Meanings,
+) -> Result<Meaning, AllocError>
+    ensures { IfOk result (λ m. meaning_tree m ≡ bound_rest start (pat_tree pat.value) (meanings_tree rest)) }
 {
     let mut rest = rest;
     let at = rest.at();
-    let x = rest.exp();
+    let x = next_exp(alloc, &mut rest);
     rest.skip();
-    let y = rest.exp();
+    let (x, y) = both(x, next_exp(alloc, &mut rest))?;
     bound(alloc, start, at, x, start, pat, y)
 }
 
@@ -48,7 +56,7 @@ pub fn exp_bind(alloc: Global, parts: Meanings) -> Result<Meaning, AllocError>
     let mut parts = parts;
     let pattern = parts.take();
     let start = start_of(&pattern);
-    let pat = pat_of(pattern);
+    let pat = boxed_pat_of(alloc, pattern)?;
     bound_rest(alloc, start, pat, parts.group(alloc))
 }
 
@@ -71,10 +79,11 @@ fn then_rest(alloc: Global, first: Meaning, rest: Meanings) -> Result<Meaning, A
 {
     let mut rest = rest;
     let start = start_of(&first);
-    let x = exp_of(first);
+    let x = boxed_exp_of(alloc, first);
     let at = rest.at();
-    let y = rest.exp();
-    bound(alloc, start, at, x, at, unit_pattern(alloc, at), y)
+    let (x, y) = both(x, next_exp(alloc, &mut rest))?;
+    let pat = boxed_pat(alloc, unit_pattern(alloc, at))?;
+    bound(alloc, start, at, x, at, pat, y)
 }
 
 /// `ExpPlain = Term [ExpThen]`, `ExpThen = ";" Exp`: `x; y` is `() <- x; y`.
@@ -85,7 +94,10 @@ pub fn exp_plain(alloc: Global, parts: Meanings) -> Result<Meaning, AllocError>
     let first = parts.take();
     match parts.take() {
         Meaning::Group(rest) => then_rest(alloc, first, rest),
-        _ => Ok(first),
+        other => {
+            drop(other);
+            Ok(first)
+        }
     }
 }
 
@@ -95,8 +107,8 @@ pub fn term_lambda(alloc: Global, parts: Meanings) -> Result<Meaning, AllocError
 {
     let mut parts = parts;
     let at = parts.at();
-    let args = parameters(alloc, &mut parts)?;
+    let args = parameters(alloc, &mut parts);
     parts.skip();
-    let body = Box::new(alloc, parts.exp())?;
+    let (args, body) = both(args, next_exp(alloc, &mut parts))?;
     term_at(alloc, at, Form::Fn(args, body))
 }

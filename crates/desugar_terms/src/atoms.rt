@@ -4,10 +4,12 @@ ghost use Rattle.plain_tree.specs.ExpView.{exp_tree, local_tree, node_tree};
 ghost use Rattle.desugar_values.specs.View.{meaning_tree, meanings_tree};
 ghost use Rattle.desugar_terms.specs.Atoms.{int_term, let_at, let_term, locals_of, string_term, xml_at, xml_empty, xml_term};
 
+use crate::boxes::next_exp;
 use crate::lists::{locals_made, nodes_made};
 use crate::locals::local_of;
+use crate::made::term_at;
 use crate::nodes::nodes_of;
-use crate::placed::a_term;
+use desugar_types::boxes::both;
 use desugar_values::parts::number;
 use desugar_values::{Meaning, Meanings};
 use plain_tree::{Exp, Form, Local, Node};
@@ -19,7 +21,7 @@ pub fn int_term(alloc: Global, parts: Meanings) -> Result<Meaning, AllocError>
 {
     let mut parts = parts;
     let token = parts.token();
-    a_term(alloc, token.at, Form::Int(number(&token.content)))
+    term_at(alloc, token.at, Form::Int(number(&token.content)))
 }
 
 /// `PrimaryString = string`, as well as `AttributeString`.
@@ -28,7 +30,7 @@ pub fn string_term(alloc: Global, parts: Meanings) -> Result<Meaning, AllocError
 {
     let mut parts = parts;
     let word = parts.name(alloc);
-    a_term(alloc, word.at, Form::Words(word.text))
+    term_at(alloc, word.at, Form::Words(word.text))
 }
 
 /// `{LetDecl}`
@@ -43,11 +45,10 @@ fn locals_of(alloc: Global, several: Meanings) -> Result<Vec<Local>, AllocError>
 }
 
 /// A `let` at this byte.
-fn let_at(alloc: Global, at: u32, items: Vec<Local>, body: Exp) -> Result<Meaning, AllocError>
-    ensures { IfOk result (λ m. meaning_tree m ≡ let_at at (map local_tree items.items) (exp_tree body)) }
+fn let_at(alloc: Global, at: u32, items: Vec<Local>, body: Box<Exp>) -> Result<Meaning, AllocError>
+    ensures { IfOk result (λ m. meaning_tree m ≡ let_at at (map local_tree items.items) (exp_tree body.value)) }
 {
-    let body = Box::new(alloc, body)?;
-    a_term(alloc, at, Form::Let(locals_made(items), body))
+    term_at(alloc, at, Form::Let(locals_made(items), body))
 }
 
 /// `PrimaryLet = "let" {LetDecl} "in" Exp "end"`
@@ -56,16 +57,17 @@ pub fn let_term(alloc: Global, parts: Meanings) -> Result<Meaning, AllocError>
 {
     let mut parts = parts;
     let at = parts.at();
-    let items = locals_of(alloc, parts.several(alloc))?;
+    let items = locals_of(alloc, parts.several(alloc));
     parts.skip();
-    let_at(alloc, at, items, parts.exp())
+    let (items, body) = both(items, next_exp(alloc, &mut parts))?;
+    let_at(alloc, at, items, body)
 }
 
 /// Markup at this byte.
 fn xml_at(alloc: Global, at: u32, items: Vec<Node>) -> Result<Meaning, AllocError>
     ensures { IfOk result (λ m. meaning_tree m ≡ xml_at at (map node_tree items.items)) }
 {
-    a_term(alloc, at, Form::Xml(nodes_made(items)))
+    term_at(alloc, at, Form::Xml(nodes_made(items)))
 }
 
 /// `PrimaryXmlEmpty = "<xml/>"`

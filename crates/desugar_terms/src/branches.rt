@@ -5,7 +5,9 @@ ghost use Rattle.desugar_values.specs.Parts.{behind, first, part};
 ghost use Rattle.desugar_values.specs.View.{meaning_tree, meanings_tree};
 ghost use Rattle.desugar_terms.specs.Branches.{branch_of, branches_of, choice, more_branch, term_case, term_if};
 
+use crate::boxes::next_exp;
 use crate::made::term_at;
+use desugar_types::boxes::{both, one_of};
 use desugar_values::parts::{group_of, pat_of, start_of};
 use desugar_values::{Meaning, Meanings};
 use plain_tree::{BasisBuilder, Branch, Branches, Builder, Exp, Form, Pat, PatForm};
@@ -34,6 +36,13 @@ fn more_branch(parts: Meanings) -> Branch
     branch_of(&mut parts)
 }
 
+/// A branch on the heap.
+fn boxed_branch(alloc: Global, branch: Branch) -> Result<Box<Branch>, AllocError>
+    ensures { IfOk result (λ b. branch_tree b.value ≡ branch_tree branch) }
+{
+    Ok(Box::new(alloc, branch)?)
+}
+
 /// `{CaseMore}`
 fn branches_of(alloc: Global, several: Meanings) -> Result<Vec<Branch>, AllocError>
     ensures { IfOk result (λ items. map branch_tree items.items ≡ branches_of (meanings_tree several)) }
@@ -51,11 +60,12 @@ pub fn term_case(alloc: Global, parts: Meanings) -> Result<Meaning, AllocError>
 {
     let mut parts = parts;
     let at = parts.at();
-    let subject = Box::new(alloc, parts.exp())?;
+    let subject = next_exp(alloc, &mut parts);
     parts.skip();
     parts.skip();
-    let first = Box::new(alloc, branch_of(&mut parts))?;
-    let items = branches_of(alloc, parts.several(alloc))?;
+    let first = boxed_branch(alloc, branch_of(&mut parts));
+    let items = branches_of(alloc, parts.several(alloc));
+    let ((subject, first), items) = both(both(subject, first), items)?;
     term_at(alloc, at, Form::Case(subject, first, Branches { items }))
 }
 
@@ -77,12 +87,11 @@ pub fn term_if(alloc: Global, parts: Meanings) -> Result<Meaning, AllocError>
 {
     let mut parts = parts;
     let at = parts.at();
-    let subject = Box::new(alloc, parts.exp())?;
+    let subject = next_exp(alloc, &mut parts);
     let then = parts.at();
-    let yes = Box::new(alloc, choice(then, BasisBuilder::True, parts.exp()))?;
+    let yes = boxed_branch(alloc, choice(then, BasisBuilder::True, parts.exp()));
     let otherwise = parts.at();
     let no = choice(otherwise, BasisBuilder::False, parts.exp());
-    let mut items = Vec::new(alloc);
-    items.push(no)?;
+    let ((subject, yes), items) = both(both(subject, yes), one_of(alloc, no))?;
     term_at(alloc, at, Form::Case(subject, yes, Branches { items }))
 }

@@ -4,23 +4,22 @@ ghost use Rattle.plain_tree.specs.ExpView.{exp_tree, item_tree};
 ghost use Rattle.desugar_values.specs.View.{meaning_tree, meanings_tree};
 ghost use Rattle.desugar_terms.specs.Calls.{apply, apply_to, argument_of, bracket_item, empty_list, item_of, items_of};
 
+use crate::boxes::boxed_exp_of;
 use crate::chains::is_none;
 use crate::dots::with_dots;
-use crate::made::{call, term_at};
+use crate::made::{basis_at, call, term_at, term_item};
+use desugar_types::boxes::both;
 use desugar_values::parts::{exp_of, start_of};
 use desugar_values::{Meaning, Meanings};
-use plain_tree::{Basis, BasisBuilder, Exp, Form, Item};
+use plain_tree::{Basis, BasisBuilder, Exp, Item};
 use std::alloc::{AllocError, Global};
 use surface_tree::Kind;
 
 /// The empty list, which begins at this place, with the projections of these dots behind it.
-fn empty_list(alloc: Global, at: u32, dots: Meanings) -> Result<Exp, AllocError>
-    ensures { IfOk result (λ e. exp_tree e ≡ empty_list at (meanings_tree dots)) }
+pub fn empty_list(alloc: Global, at: u32, dots: Meanings) -> Result<Box<Exp>, AllocError>
+    ensures { IfOk result (λ e. exp_tree e.value ≡ empty_list at (meanings_tree dots)) }
 {
-    let list = Exp {
-        at,
-        form: Form::Basis(Basis::Builder(BasisBuilder::Nil)),
-    };
+    let list = basis_at(alloc, at, Basis::Builder(BasisBuilder::Nil))?;
     with_dots(alloc, at, list, dots)
 }
 
@@ -31,7 +30,10 @@ fn bracket_item(alloc: Global, at: u32, rest: Meanings) -> Result<Item, AllocErr
     let mut rest = rest;
     match rest.take() {
         Meaning::Con(_, con) => Ok(Item::Con(at, Box::into_inner(con))),
-        _ => Ok(Item::Term(empty_list(alloc, at, rest.several(alloc))?)),
+        other => {
+            drop(other);
+            Ok(term_item(empty_list(alloc, at, rest.several(alloc))?))
+        }
     }
 }
 
@@ -73,8 +75,8 @@ fn apply_to(alloc: Global, first: Meaning, several: Meanings) -> Result<Meaning,
     ensures { IfOk result (λ m. meaning_tree m ≡ apply_to (meaning_tree first) (meanings_tree several)) }
 {
     let start = start_of(&first);
-    let head = Box::new(alloc, exp_of(first))?;
-    let items = items_of(alloc, several)?;
+    let head = boxed_exp_of(alloc, first);
+    let (head, items) = both(head, items_of(alloc, several))?;
     term_at(alloc, start, call(head, items))
 }
 

@@ -1,14 +1,16 @@
 //! Operators of chains.
 ghost use Rattle.std.specs.Prelude.{◌≡◌, IfOk, map};
-ghost use Rattle.plain_tree.specs.ExpView.{exp_tree, form_tree, link_tree, links_from, links_tree};
-ghost use Rattle.plain_tree.specs.Trees.{exp_chain};
+ghost use Rattle.plain_tree.specs.ExpView.{link_tree};
 ghost use Rattle.desugar_values.specs.View.{meaning_tree, meanings_tree};
 ghost use Rattle.desugar_terms.specs.Chains.{chain, chain_from, is_none, link_of, links_of, operator};
 
+use crate::boxes::boxed_exp_of;
+use crate::lists::links_made;
 use crate::made::term_at;
+use desugar_types::boxes::both;
 use desugar_values::parts::{con_of, exp_of, group_of, start_of};
 use desugar_values::{Meaning, Meanings};
-use plain_tree::{Exp, Form, Infix, Link, Links};
+use plain_tree::{Form, Infix, Link};
 use std::alloc::{AllocError, Global};
 use surface_tree::Kind;
 
@@ -64,28 +66,14 @@ pub fn is_none(several: &Meanings) -> bool
     }
 }
 
-/// What follows a term, from left to right.
-fn followers(items: Vec<Link>) -> Links
-    ensures { links_tree result ≡ links_from (map link_tree items.items) }
-{
-    Links { items }
-}
-
-/// A term, and what follows it.
-fn followed(head: Box<Exp>, links: Links) -> Form
-    ensures { form_tree result ≡ exp_chain (exp_tree head.value) (links_tree links) }
-{
-    Form::Chain(head, links)
-}
-
 /// A term and what follows it.
 fn chain_from(alloc: Global, first: Meaning, several: Meanings) -> Result<Meaning, AllocError>
     ensures { IfOk result (λ m. meaning_tree m ≡ chain_from (meaning_tree first) (meanings_tree several)) }
 {
     let start = start_of(&first);
-    let head = Box::new(alloc, exp_of(first))?;
-    let items = links_of(alloc, several)?;
-    term_at(alloc, start, followed(head, followers(items)))
+    let head = boxed_exp_of(alloc, first);
+    let (head, items) = both(head, links_of(alloc, several))?;
+    term_at(alloc, start, Form::Chain(head, links_made(items)))
 }
 
 /// A term and what follows it, as `Sum = Product {SumMore}`; with nothing behind it the term alone.

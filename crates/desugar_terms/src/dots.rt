@@ -4,6 +4,7 @@ ghost use Rattle.plain_tree.specs.ExpView.{exp_tree, link_tree};
 ghost use Rattle.desugar_values.specs.View.{meaning_tree, meanings_tree};
 ghost use Rattle.desugar_terms.specs.Dots.{chain, dot_of, dots_of, with_dots, with_links};
 
+use crate::boxes::boxed_exp;
 use crate::lists::links_made;
 use desugar_values::words::field_name;
 use desugar_values::{Meaning, Meanings};
@@ -29,20 +30,26 @@ fn dots_of(alloc: Global, several: Meanings) -> Result<Vec<Link>, AllocError>
 }
 
 /// A term with projections behind it, as a chain.
-fn chain(alloc: Global, start: u32, exp: Exp, links: Vec<Link>) -> Result<Exp, AllocError>
-    ensures { IfOk result (λ e. exp_tree e ≡ chain start (exp_tree exp) (map link_tree links.items)) }
+fn chain(
+    alloc: Global,
+    start: u32,
+    head: Box<Exp>,
+    links: Vec<Link>,
+) -> Result<Box<Exp>, AllocError>
+    ensures { IfOk result (λ e. exp_tree e.value ≡ chain start (exp_tree head.value) (map link_tree links.items)) }
 {
-    let head = Box::new(alloc, exp)?;
-    Ok(Exp {
-        at: start,
-        form: Form::Chain(head, links_made(links)),
-    })
+    boxed_exp(alloc, start, Form::Chain(head, links_made(links)))
 }
 
 /// A term, whose tree begins at this byte, with projections behind it.
 #[tactic(auto, using(crate::proofs::SomeLinks::some_links))]
-pub fn with_links(alloc: Global, start: u32, exp: Exp, links: Vec<Link>) -> Result<Exp, AllocError>
-    ensures { IfOk result (λ e. exp_tree e ≡ with_links start (exp_tree exp) (map link_tree links.items)) }
+pub fn with_links(
+    alloc: Global,
+    start: u32,
+    exp: Box<Exp>,
+    links: Vec<Link>,
+) -> Result<Box<Exp>, AllocError>
+    ensures { IfOk result (λ e. exp_tree e.value ≡ with_links start (exp_tree exp.value) (map link_tree links.items)) }
 {
     if links.is_empty() {
         return Ok(exp);
@@ -51,8 +58,13 @@ pub fn with_links(alloc: Global, start: u32, exp: Exp, links: Vec<Link>) -> Resu
 }
 
 /// A term, whose tree begins at this byte, with the projections of dots behind it.
-pub fn with_dots(alloc: Global, start: u32, exp: Exp, several: Meanings) -> Result<Exp, AllocError>
-    ensures { IfOk result (λ e. exp_tree e ≡ with_dots start (exp_tree exp) (meanings_tree several)) }
+pub fn with_dots(
+    alloc: Global,
+    start: u32,
+    exp: Box<Exp>,
+    several: Meanings,
+) -> Result<Box<Exp>, AllocError>
+    ensures { IfOk result (λ e. exp_tree e.value ≡ with_dots start (exp_tree exp.value) (meanings_tree several)) }
 {
     let links = dots_of(alloc, several)?;
     with_links(alloc, start, exp, links)

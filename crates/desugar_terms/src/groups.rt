@@ -4,7 +4,8 @@ ghost use Rattle.plain_tree.specs.ExpView.{exp_tree, field_tree};
 ghost use Rattle.desugar_values.specs.View.{meaning_tree, meanings_tree};
 ghost use Rattle.desugar_terms.specs.Groups.{component_of, components_of, in_brackets, parens, tuple, tuple_field, tuple_fields, typed, unit};
 
-use crate::placed::{a_term, placed};
+use crate::made::term_at;
+use desugar_types::boxes::two_of;
 use desugar_values::parts::{exp_of, start_of};
 use desugar_values::words::component;
 use desugar_values::{Meaning, Meanings};
@@ -19,7 +20,7 @@ fn unit(alloc: Global, at: u32) -> Result<Meaning, AllocError>
     let fields = Fields {
         items: Vec::new(alloc),
     };
-    a_term(alloc, at, Form::Rec(fields))
+    term_at(alloc, at, Form::Rec(fields))
 }
 
 /// The component of a tuple that has this number, at the byte at which its tree begins.
@@ -34,7 +35,7 @@ fn tuple_field(start: u32, number: u64, value: Exp) -> Field
 }
 
 /// The component of a tuple that a tree stands for.
-fn component_of(number: u64, part: Meaning) -> Field
+pub fn component_of(number: u64, part: Meaning) -> Field
     ensures { field_tree result ≡ component_of number (meaning_tree part) }
 {
     let start = start_of(&part);
@@ -58,16 +59,15 @@ fn with_components(before: Vec<Field>, several: Meanings) -> Result<Vec<Field>, 
 fn tuple_fields(
     alloc: Global,
     start: u32,
-    first: Exp,
+    first: Box<Exp>,
     parts: Meanings,
 ) -> Result<Vec<Field>, AllocError>
     ensures { IfOk result (λ fields. map field_tree fields.items
-        ≡ tuple_fields start (exp_tree first) (meanings_tree parts)) }
+        ≡ tuple_fields start (exp_tree first.value) (meanings_tree parts)) }
 {
     let mut parts = parts;
-    let mut fields = Vec::new(alloc);
-    fields.push(tuple_field(start, 1, first))?;
-    fields.push(component_of(2, parts.take()))?;
+    let first = tuple_field(start, 1, Box::into_inner(first));
+    let fields = two_of(alloc, first, component_of(2, parts.take()))?;
     with_components(fields, parts.several(alloc))
 }
 
@@ -76,22 +76,21 @@ fn tuple(
     alloc: Global,
     at: u32,
     start: u32,
-    first: Exp,
+    first: Box<Exp>,
     parts: Meanings,
 ) -> Result<Meaning, AllocError>
-    ensures { IfOk result (λ m. meaning_tree m ≡ tuple at start (exp_tree first) (meanings_tree parts)) }
+    ensures { IfOk result (λ m. meaning_tree m ≡ tuple at start (exp_tree first.value) (meanings_tree parts)) }
 {
     let items = tuple_fields(alloc, start, first, parts)?;
-    a_term(alloc, at, Form::Rec(Fields { items }))
+    term_at(alloc, at, Form::Rec(Fields { items }))
 }
 
 /// `"(" Exp ParenTyped`, `ParenTyped = ":" Con ")"`, with the parts behind the colon.
-fn typed(alloc: Global, at: u32, exp: Exp, parts: Meanings) -> Result<Meaning, AllocError>
-    ensures { IfOk result (λ m. meaning_tree m ≡ typed at (exp_tree exp) (meanings_tree parts)) }
+fn typed(alloc: Global, at: u32, exp: Box<Exp>, parts: Meanings) -> Result<Meaning, AllocError>
+    ensures { IfOk result (λ m. meaning_tree m ≡ typed at (exp_tree exp.value) (meanings_tree parts)) }
 {
     let mut parts = parts;
-    let exp = Box::new(alloc, exp)?;
-    a_term(alloc, at, Form::Typed(exp, parts.con()))
+    term_at(alloc, at, Form::Typed(exp, parts.con()))
 }
 
 /// `"(" Exp ParenEnd`: a term that only stands in brackets keeps its own place.
@@ -99,16 +98,16 @@ fn in_brackets(
     alloc: Global,
     at: u32,
     start: u32,
-    exp: Exp,
+    exp: Box<Exp>,
     parts: Meanings,
 ) -> Result<Meaning, AllocError>
-    ensures { IfOk result (λ m. meaning_tree m ≡ in_brackets at start (exp_tree exp) (meanings_tree parts)) }
+    ensures { IfOk result (λ m. meaning_tree m ≡ in_brackets at start (exp_tree exp.value) (meanings_tree parts)) }
 {
     let mut parts = parts;
     match parts.token().kind {
         Kind::Comma => tuple(alloc, at, start, exp, parts),
         Kind::Colon => typed(alloc, at, exp, parts),
-        _ => placed(alloc, at, exp),
+        _ => Ok(Meaning::Exp(at, exp)),
     }
 }
 
@@ -120,10 +119,14 @@ pub fn parens(alloc: Global, parts: Meanings) -> Result<Meaning, AllocError>
     let at = parts.at();
     let mut rest = parts.group(alloc);
     match rest.take() {
-        Meaning::Word(_) => unit(alloc, at),
-        Meaning::Exp(start, exp) => {
-            in_brackets(alloc, at, start, Box::into_inner(exp), rest.group(alloc))
+        Meaning::Word(token) => {
+            drop(token);
+            unit(alloc, at)
         }
-        _ => Err(AllocError),
+        Meaning::Exp(start, exp) => in_brackets(alloc, at, start, exp, rest.group(alloc)),
+        other => {
+            drop(other);
+            Err(AllocError)
+        }
     }
 }

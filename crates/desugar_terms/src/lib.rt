@@ -4,6 +4,7 @@
 pub mod actions;
 pub mod atom_rules;
 pub mod atoms;
+pub mod boxes;
 pub mod branches;
 pub mod calls;
 pub mod chains;
@@ -22,7 +23,6 @@ pub mod nodes;
 pub mod operands;
 pub mod operators;
 pub mod paths;
-pub mod placed;
 pub mod records;
 pub mod signed;
 pub mod tables;

@@ -8,6 +8,7 @@ ghost use Rattle.desugar_terms.specs.Functions.{function};
 ghost use Rattle.desugar_terms.specs.Locals.{function_group, functions, local_by, local_of, mark_type, plain_value, typed_value, typed_values, value, value_group};
 
 use crate::functions::function;
+use desugar_types::boxes::one_of;
 use desugar_values::parts::{group_of, named};
 use desugar_values::{Meaning, Meanings};
 use plain_tree::{Con, Local, Named, NamedList};
@@ -29,7 +30,10 @@ fn mark_type(mark: Meaning) -> Option<Con>
 {
     match mark {
         Meaning::Group(parts) => Some(marked(parts)),
-        _ => None,
+        other => {
+            drop(other);
+            None
+        }
     }
 }
 
@@ -82,8 +86,7 @@ fn function_more(alloc: Global, meaning: Meaning) -> Result<Named, AllocError>
 fn typed_values(alloc: Global, first: Named, more: Meanings) -> Result<Vec<Named>, AllocError>
     ensures { IfOk result (λ all. map named_tree all.items ≡ named_tree first ∷ typed_values (meanings_tree more)) }
 {
-    let mut items = Vec::new(alloc);
-    items.push(first)?;
+    let mut items = one_of(alloc, first)?;
     for part in more.into_list() {
         items.push(value_more(alloc, part))?;
     }
@@ -94,8 +97,7 @@ fn typed_values(alloc: Global, first: Named, more: Meanings) -> Result<Vec<Named
 fn functions(alloc: Global, first: Named, more: Meanings) -> Result<Vec<Named>, AllocError>
     ensures { IfOk result (λ all. map named_tree all.items ≡ named_tree first ∷ functions (meanings_tree more)) }
 {
-    let mut items = Vec::new(alloc);
-    items.push(first)?;
+    let mut items = one_of(alloc, first)?;
     for part in more.into_list() {
         items.push(function_more(alloc, part)?)?;
     }

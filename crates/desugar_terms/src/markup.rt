@@ -8,10 +8,12 @@ ghost use Rattle.desugar_values.specs.View.{meaning_tree, meanings_tree};
 ghost use Rattle.desugar_terms.specs.Markup.{attribute_by, attribute_of, attributes_of, brace_by, element_at, element_by, element_end, node_brace, node_text, run_of, splice, whole_element};
 ghost use Rattle.desugar_terms.specs.Nodes.{nodes_of};
 
+use crate::boxes::{boxed_exp, boxed_exp_of, next_exp};
 use crate::lists::{attributes_made, nodes_made};
 use crate::made::call_one;
 use crate::nodes::nodes_of;
-use desugar_values::parts::{exp_of, group_of};
+use desugar_types::boxes::both;
+use desugar_values::parts::group_of;
 use desugar_values::{Meaning, Meanings};
 use plain_tree::{Attribute, Basis, Con, Exp, Node, Word};
 use std::alloc::{AllocError, Global};
@@ -39,10 +41,10 @@ pub fn node_text(alloc: Global, parts: Meanings) -> Result<Meaning, AllocError>
 }
 
 /// A term as a node.
-fn node_at(at: u32, exp: Exp) -> Node
-    ensures { node_tree result ≡ node_exp at (exp_tree exp) }
+fn node_at(at: u32, exp: Box<Exp>) -> Node
+    ensures { node_tree result ≡ node_exp at (exp_tree exp.value) }
 {
-    Node::Exp(at, exp)
+    Node::Exp(at, Box::into_inner(exp))
 }
 
 /// `"{" Splice "}"`, `Splice = "[" Exp "]"`: `{[e]}` is `txt e`, at the brace.
@@ -51,8 +53,9 @@ fn splice(alloc: Global, at: u32, parts: Meanings) -> Result<Node, AllocError>
 {
     let mut parts = parts;
     parts.skip();
-    let form = call_one(alloc, at, Basis::Txt, parts.exp())?;
-    Ok(node_at(at, Exp { at, form }))
+    let x = next_exp(alloc, &mut parts)?;
+    let form = call_one(alloc, at, Basis::Txt, x)?;
+    Ok(node_at(at, boxed_exp(alloc, at, form)?))
 }
 
 /// What stands in braces: `NodeSplice = Splice "}"`, or `NodeExp = Exp "}"`.
@@ -61,7 +64,7 @@ fn brace_by(alloc: Global, at: u32, first: Meaning) -> Result<Node, AllocError>
 {
     match first {
         Meaning::Group(parts) => splice(alloc, at, parts),
-        other => Ok(node_at(at, exp_of(other))),
+        other => Ok(node_at(at, boxed_exp_of(alloc, other)?)),
     }
 }
 
@@ -132,9 +135,14 @@ fn element_by(alloc: Global, tag: Word, parts: Meanings) -> Result<Node, AllocEr
 {
     let mut parts = parts;
     let name = parts.maybe_con();
-    let attributes = attributes_of(alloc, parts.several(alloc))?;
-    let inner = element_end(alloc, parts.group(alloc))?;
-    Ok(element_at(tag, name, attributes, inner))
+    let attributes = attributes_of(alloc, parts.several(alloc));
+    match both(attributes, element_end(alloc, parts.group(alloc))) {
+        Ok((attributes, inner)) => Ok(element_at(tag, name, attributes, inner)),
+        Err(full) => {
+            drop(name);
+            Err(full)
+        }
+    }
 }
 
 /// `NodeElement = open_tag [TagName] {Attribute} ElementEnd`

@@ -2,15 +2,16 @@
 ghost use Rattle.std.specs.Prelude.{◌≡◌, IfOk};
 ghost use Rattle.plain_tree.specs.ExpView.{exp_tree};
 ghost use Rattle.desugar_values.specs.View.{meaning_tree, meanings_tree};
-ghost use Rattle.desugar_terms.specs.Operands.{atom_list, name_by, name_exp, named_operand, nil, operand, operand_by, plain_operand, sigil_of, words_exp};
+ghost use Rattle.desugar_terms.specs.Operands.{atom_list, name_by, name_exp, named_operand, operand, operand_by, plain_operand, sigil_of, words_exp};
 
+use crate::boxes::{boxed_exp, boxed_exp_of};
+use crate::calls::empty_list;
 use crate::dots::with_dots;
 use crate::paths::{longest, path_exp};
-use crate::placed::placed;
-use desugar_values::parts::{characters, exp_of, start_of};
+use desugar_values::parts::{characters, start_of};
 use desugar_values::words::bare;
 use desugar_values::{Meaning, Meanings};
-use plain_tree::{Basis, BasisBuilder, Exp, Form, Sigil};
+use plain_tree::{Exp, Form, Sigil};
 use std::alloc::{AllocError, Global};
 use surface_tree::{Kind, Token};
 
@@ -45,15 +46,15 @@ fn name_exp(
     sigil: Sigil,
     name: Token,
     dots: Meanings,
-) -> Result<Exp, AllocError>
-    ensures { IfOk result (λ e. exp_tree e ≡ name_exp at sigil name (meanings_tree dots)) }
+) -> Result<Box<Exp>, AllocError>
+    ensures { IfOk result (λ e. exp_tree e.value ≡ name_exp at sigil name (meanings_tree dots)) }
 {
     let kind = name.kind;
     let text = characters(alloc, name.content);
     match kind {
         Kind::LowerName => {
-            let form = Form::Name(sigil, bare(alloc, text));
-            with_dots(alloc, at, Exp { at, form }, dots)
+            let name = boxed_exp(alloc, at, Form::Name(sigil, bare(alloc, text)))?;
+            with_dots(alloc, at, name, dots)
         }
         _ => path_exp(alloc, at, sigil, longest(alloc, text, dots)?),
     }
@@ -65,8 +66,8 @@ fn words_exp(
     first: Token,
     words: Meanings,
     dots: Meanings,
-) -> Result<Exp, AllocError>
-    ensures { IfOk result (λ e. exp_tree e ≡ words_exp first (meanings_tree words) (meanings_tree dots)) }
+) -> Result<Box<Exp>, AllocError>
+    ensures { IfOk result (λ e. exp_tree e.value ≡ words_exp first (meanings_tree words) (meanings_tree dots)) }
 {
     let at = first.at;
     let sigil = sigil_of(first.kind);
@@ -82,8 +83,7 @@ fn named_operand(alloc: Global, words: Meanings, dots: Meanings) -> Result<Meani
     let mut words = words;
     let first = words.token();
     let at = first.at;
-    let exp = words_exp(alloc, first, words, dots)?;
-    placed(alloc, at, exp)
+    Ok(Meaning::Exp(at, words_exp(alloc, first, words, dots)?))
 }
 
 /// Any other term, with dots behind it.
@@ -91,8 +91,8 @@ fn plain_operand(alloc: Global, primary: Meaning, dots: Meanings) -> Result<Mean
     ensures { IfOk result (λ m. meaning_tree m ≡ plain_operand (meaning_tree primary) (meanings_tree dots)) }
 {
     let start = start_of(&primary);
-    let exp = with_dots(alloc, start, exp_of(primary), dots)?;
-    placed(alloc, start, exp)
+    let exp = boxed_exp_of(alloc, primary)?;
+    Ok(Meaning::Exp(start, with_dots(alloc, start, exp, dots)?))
 }
 
 /// A term, or a name by its words, with dots behind it.
@@ -114,16 +114,6 @@ pub fn operand(alloc: Global, parts: Meanings) -> Result<Meaning, AllocError>
     operand_by(alloc, primary, parts.several(alloc))
 }
 
-/// The empty list.
-fn nil(at: u32) -> Exp
-    ensures { exp_tree result ≡ nil at }
-{
-    Exp {
-        at,
-        form: Form::Basis(Basis::Builder(BasisBuilder::Nil)),
-    }
-}
-
 /// `AtomList = "[" "]" {Dot}`
 pub fn atom_list(alloc: Global, parts: Meanings) -> Result<Meaning, AllocError>
     ensures { IfOk result (λ m. meaning_tree m ≡ atom_list (meanings_tree parts)) }
@@ -131,6 +121,5 @@ pub fn atom_list(alloc: Global, parts: Meanings) -> Result<Meaning, AllocError>
     let mut parts = parts;
     let at = parts.at();
     parts.skip();
-    let exp = with_dots(alloc, at, nil(at), parts.several(alloc))?;
-    placed(alloc, at, exp)
+    Ok(Meaning::Exp(at, empty_list(alloc, at, parts.several(alloc))?))
 }

@@ -1,20 +1,28 @@
 //! Comparisons, lists and the sign.
 ghost use Rattle.std.specs.Prelude.{◌≡◌, IfOk};
-ghost use Rattle.plain_tree.specs.ExpView.{exp_tree, field_tree, form_tree};
+ghost use Rattle.plain_tree.specs.ExpView.{exp_tree, form_tree};
 ghost use Rattle.desugar_values.specs.View.{meaning_tree, meanings_tree};
-ghost use Rattle.desugar_terms.specs.Operators.{compare, compare_rest, compared, component_field, cons, cons_rest, pair, sign_minus};
+ghost use Rattle.desugar_terms.specs.Operators.{compare, compare_rest, compared, cons, cons_rest, pair, sign_minus};
 
+use crate::boxes::{boxed_exp, boxed_exp_of, next_exp};
+use crate::groups::component_of;
 use crate::made::{call_one, call_two, term_at};
-use desugar_values::parts::{exp_of, start_of};
-use desugar_values::words::component;
+use desugar_types::boxes::{both, two_of};
+use desugar_values::parts::start_of;
 use desugar_values::{Meaning, Meanings};
-use plain_tree::{Basis, BasisBuilder, Exp, Field, Fields, Form};
+use plain_tree::{Basis, BasisBuilder, Exp, Fields, Form};
 use std::alloc::{AllocError, Global};
 use surface_tree::Kind;
 
 /// A comparison with both sides: `x > y` is `lt y x`, and `x >= y` is `le y x`.
-fn compared(alloc: Global, operator: Kind, at: u32, x: Exp, y: Exp) -> Result<Form, AllocError>
-    ensures { IfOk result (λ f. form_tree f ≡ compared operator at (exp_tree x) (exp_tree y)) }
+fn compared(
+    alloc: Global,
+    operator: Kind,
+    at: u32,
+    x: Box<Exp>,
+    y: Box<Exp>,
+) -> Result<Form, AllocError>
+    ensures { IfOk result (λ f. form_tree f ≡ compared operator at (exp_tree x.value) (exp_tree y.value)) }
 {
     match operator {
         Kind::NotEqual => call_two(alloc, at, Basis::Ne, x, y),
@@ -32,9 +40,9 @@ fn compare_rest(alloc: Global, first: Meaning, rest: Meanings) -> Result<Meaning
 {
     let mut rest = rest;
     let start = start_of(&first);
-    let x = exp_of(first);
+    let x = boxed_exp_of(alloc, first);
     let operator = rest.token();
-    let y = rest.exp();
+    let (x, y) = both(x, next_exp(alloc, &mut rest))?;
     let form = compared(alloc, operator.kind, operator.at, x, y)?;
     term_at(alloc, start, form)
 }
@@ -47,32 +55,20 @@ pub fn compare(alloc: Global, parts: Meanings) -> Result<Meaning, AllocError>
     let first = parts.take();
     match parts.take() {
         Meaning::Group(rest) => compare_rest(alloc, first, rest),
-        _ => Ok(first),
-    }
-}
-
-/// A component of a tuple.
-fn component_field(number: u64, part: Meaning) -> Field
-    ensures { field_tree result ≡ component_field number (meaning_tree part) }
-{
-    let at = start_of(&part);
-    Field {
-        at,
-        name: component(at, number),
-        value: exp_of(part),
+        other => {
+            drop(other);
+            Ok(first)
+        }
     }
 }
 
 /// The pair of two terms.
-fn pair(alloc: Global, left: Meaning, right: Meaning) -> Result<Exp, AllocError>
-    ensures { IfOk result (λ e. exp_tree e ≡ pair (meaning_tree left) (meaning_tree right)) }
+fn pair(alloc: Global, left: Meaning, right: Meaning) -> Result<Box<Exp>, AllocError>
+    ensures { IfOk result (λ e. exp_tree e.value ≡ pair (meaning_tree left) (meaning_tree right)) }
 {
     let at = start_of(&left);
-    let mut items = Vec::new(alloc);
-    items.push(component_field(1, left))?;
-    items.push(component_field(2, right))?;
-    let form = Form::Rec(Fields { items });
-    Ok(Exp { at, form })
+    let items = two_of(alloc, component_of(1, left), component_of(2, right))?;
+    boxed_exp(alloc, at, Form::Rec(Fields { items }))
 }
 
 /// `"::"` and a term, behind a term: `Cons` on a pair.
@@ -95,7 +91,10 @@ pub fn cons(alloc: Global, parts: Meanings) -> Result<Meaning, AllocError>
     let first = parts.take();
     match parts.take() {
         Meaning::Group(rest) => cons_rest(alloc, first, rest),
-        _ => Ok(first),
+        other => {
+            drop(other);
+            Ok(first)
+        }
     }
 }
 
@@ -105,6 +104,7 @@ pub fn sign_minus(alloc: Global, parts: Meanings) -> Result<Meaning, AllocError>
 {
     let mut parts = parts;
     let at = parts.at();
-    let form = call_one(alloc, at, Basis::Neg, parts.exp())?;
+    let x = next_exp(alloc, &mut parts)?;
+    let form = call_one(alloc, at, Basis::Neg, x)?;
     term_at(alloc, at, form)
 }

@@ -5,6 +5,7 @@ ghost use Rattle.desugar_values.specs.Meanings.{no_meaning};
 ghost use Rattle.desugar_values.specs.View.{meaning_tree, meanings_tree};
 ghost use Rattle.desugar_terms.specs.Paths.{and_links, finish, go_on, is_lower, is_lower_kind, is_upper, is_upper_kind, longest, names_tree, one_more, path_exp, path_form, reached_tree, text_of};
 
+use crate::boxes::boxed_exp;
 use crate::dots::{dot_of, with_links};
 use desugar_values::parts::{characters, word_of};
 use desugar_values::{Meaning, Meanings};
@@ -188,14 +189,14 @@ fn path_form(sigil: Sigil, is_value: bool, path: Path) -> Form
 }
 
 /// The term at this byte that a path with projections behind it is.
-pub fn path_exp(alloc: Global, at: u32, sigil: Sigil, names: Names) -> Result<Exp, AllocError>
-    ensures { IfOk result (λ e. exp_tree e ≡ path_exp at sigil (names_tree names)) }
+pub fn path_exp(alloc: Global, at: u32, sigil: Sigil, names: Names) -> Result<Box<Exp>, AllocError>
+    ensures { IfOk result (λ e. exp_tree e.value ≡ path_exp at sigil (names_tree names)) }
 {
     let Names {
         path,
         is_value,
         links,
     } = names;
-    let form = path_form(sigil, is_value, path);
-    with_links(alloc, at, Exp { at, form }, links)
+    let exp = boxed_exp(alloc, at, path_form(sigil, is_value, path))?;
+    with_links(alloc, at, exp, links)
 }

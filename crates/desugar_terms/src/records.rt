@@ -6,7 +6,8 @@ ghost use Rattle.desugar_values.specs.Parts.{behind};
 ghost use Rattle.desugar_values.specs.View.{meaning_tree, meanings_tree};
 ghost use Rattle.desugar_terms.specs.Records.{exp_fields, field_more, field_term, fields_more, maybe_fields, named_field, record_term};
 
-use crate::placed::a_term;
+use crate::made::term_at;
+use desugar_types::boxes::one_of;
 use desugar_values::parts::group_of;
 use desugar_values::words::field_name;
 use desugar_values::{Meaning, Meanings};
@@ -64,8 +65,7 @@ fn exp_fields(alloc: Global, parts: Meanings) -> Result<Vec<Field>, AllocError>
     ensures { IfOk result (λ fields. map field_tree fields.items ≡ exp_fields (meanings_tree parts)) }
 {
     let mut parts = parts;
-    let mut fields = Vec::new(alloc);
-    fields.push(field_term(alloc, &mut parts))?;
+    let fields = one_of(alloc, field_term(alloc, &mut parts))?;
     with_fields(alloc, fields, parts.several(alloc))
 }
 
@@ -75,7 +75,10 @@ fn maybe_fields(alloc: Global, part: Meaning) -> Result<Vec<Field>, AllocError>
 {
     match part {
         Meaning::Group(parts) => exp_fields(alloc, parts),
-        _ => Ok(Vec::new(alloc)),
+        other => {
+            drop(other);
+            Ok(Vec::new(alloc))
+        }
     }
 }
 
@@ -86,5 +89,5 @@ pub fn record_term(alloc: Global, parts: Meanings) -> Result<Meaning, AllocError
     let mut parts = parts;
     let at = parts.at();
     let items = maybe_fields(alloc, parts.take())?;
-    a_term(alloc, at, Form::Rec(Fields { items }))
+    term_at(alloc, at, Form::Rec(Fields { items }))
 }

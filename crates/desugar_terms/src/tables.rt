@@ -53,7 +53,10 @@ fn key_of(alloc: Global, mark: Meaning) -> Result<Words, AllocError>
 {
     match mark {
         Meaning::Group(parts) => columns(alloc, parts),
-        _ => Ok(Words::new(alloc)),
+        other => {
+            drop(other);
+            Ok(Words::new(alloc))
+        }
     }
 }
 
@@ -65,8 +68,13 @@ pub fn table(alloc: Global, at: u32, parts: Meanings) -> Result<Table, AllocErro
     let name = parts.name(alloc);
     parts.skip();
     let con = parts.con();
-    let key = key_of(alloc, parts.take())?;
-    Ok(Table { at, name, con, key })
+    match key_of(alloc, parts.take()) {
+        Ok(key) => Ok(Table { at, name, con, key }),
+        Err(full) => {
+            drop(con);
+            Err(full)
+        }
+    }
 }
 
 /// `DeclCookie = "cookie" lower ":" Con`

@@ -6,6 +6,7 @@ ghost use Rattle.desugar_terms.specs.Types.{builder_of, builders_of, con_declare
 
 use crate::name_lists::add_names;
 use con_terms::kind::Kind;
+use desugar_types::boxes::one_of;
 use desugar_values::parts::{group_of, maybe_kind_of};
 use desugar_values::{Meaning, Meanings};
 use plain_tree::{Builders, Datatype, DatatypeBuilder, TypeDecl, Words};
@@ -62,8 +63,7 @@ fn builders(
 ) -> Result<Vec<DatatypeBuilder>, AllocError>
     ensures { IfOk result (λ all. map builder_tree all.items ≡ builder_tree first ∷ builders_of (meanings_tree more)) }
 {
-    let mut items = Vec::new(alloc);
-    items.push(first)?;
+    let mut items = one_of(alloc, first)?;
     for part in more.into_list() {
         items.push(builder_of(alloc, part))?;
     }
