@@ -4,8 +4,8 @@
 usage: tests/standins.py FOLDER NAME..
 
 FOLDER then holds the named crates as they are, and a stand-in for each crate below them: its types, its specs/ whole, and those
-of its public functions that the named crates' sources name, with their contracts word for word. The body of each calls
-`stub::given`, which a foreign function that promises `⊥` is behind. So a check of a named crate there proves its own
+of its public functions that the named crates' sources name, with their contracts word for word. The body of each is
+`match stub::given() {}`, where that call gives what isn't, by a foreign function that promises `⊥`. So a check of a named crate there proves its own
 functions over the contracts below, and nothing else; it isn't the gate, and no library of it may be used elsewhere.
 
     tests/standins.py /tmp/over site_build page_server
@@ -21,7 +21,7 @@ import subprocess
 import sys
 
 TOP = os.path.dirname(os.path.dirname(os.path.abspath(__file__)))
-STUB = '''//! What gives anything.
+STUB = '''//! What gives what isn't, by a foreign function that promises it.
 #![tactic(auto)]
 
 unsafe extern "C" {
@@ -29,12 +29,16 @@ unsafe extern "C" {
         ensures { ⊥ };
 }
 
-/// Anything.
-pub fn given<T>() -> T
+/// Nothing is of this type.
+#[derive(Clone, Copy)]
+pub enum Nothing {}
+
+/// What isn't.
+pub fn given() -> Nothing
     ensures { ⊥ }
 {
     never();
-    let none: Option<T> = None;
+    let none: Option<Nothing> = None;
     none.unwrap()
 }
 '''
@@ -102,7 +106,7 @@ def without_bodies(text, words):
             made.append(text[found.start():at])
         elif is_of_trait(text, found.start()) or (text.startswith("pub ", begins) and name in words):
             kept = [it for it in re.findall(r"#\[[^\n]*\][ \t]*\n[ \t]*", found[2]) if not it.startswith(GONE)]
-            made.append(found[1] + "".join(kept) + text[begins:body] + "{ stub::given() }")
+            made.append(found[1] + "".join(kept) + text[begins:body] + "{ match stub::given() {} }")
     text = "".join(made) + text[at:]
     return re.sub(r"(?m)^impl(<[^{;]*>)?\s+[A-Z]\w*(<[^{;]*>)?\s*\{\s*\}\n", "", text)
 
@@ -168,7 +172,7 @@ def main(folder, *names):
     for name in names:
         for at, _, files in os.walk(f"{TOP}/crates/{name}/src"):
             sources += "".join(open(f"{at}/{it}", encoding="utf-8").read() for it in files)
-    words, used = set(re.findall(r"[a-z_][a-z0-9_]*", sources)), set(re.findall(r"(?m)^\s*(?:pub )?use (\w+)", sources))
+    words, used = set(re.findall(r"[a-z_][a-z0-9_]*", sources)), {it for name in names for it in crates[name][1]}
     for name in needed:
         to = f"{folder}/crates/{name}"
         for part in ("src", "specs", *["proofs"] * (name in names)):

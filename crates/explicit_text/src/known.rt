@@ -38,6 +38,8 @@ pub struct Known {
     names: Texts,
     modules: Texts,
     types: Vec<KnownType>,
+    /// For each symbol how many datatypes there are up to the first that has it; 0 where none has.
+    places: Vec<usize>,
     folders: Vec<u32>,
     tops: Vec<Top>,
     effects: Vec<KnownEffect>,
@@ -60,6 +62,7 @@ impl Known {
             names: copy_texts(alloc, names)?,
             modules: copy_texts(alloc, modules)?,
             types: Vec::new(alloc),
+            places: vec![in alloc; 0; names.len()]?,
             folders: Vec::new(alloc),
             tops: Vec::new(alloc),
             effects: Vec::new(alloc),
@@ -121,6 +124,14 @@ impl Known {
         self.add_top(named.place.file, named.name, &named.con)
     }
 
+    /// Notes that the last datatype has a symbol, where none before it has.
+    fn note(&mut self, symbol: Sym) {
+        let number = symbol.number as usize;
+        if number < self.places.len() && self.places[number] == 0 {
+            self.places[number] = self.types.len();
+        }
+    }
+
     /// Adds a datatype.
     fn add_datatype(&mut self, datatype: &Datatype) -> Result<(), AllocError> {
         let mut builders = Vec::new(self.alloc);
@@ -137,6 +148,7 @@ impl Known {
         if self.types.push(known).is_err() {
             return Err(AllocError);
         }
+        self.note(datatype.symbol);
         Ok(())
     }
 
@@ -173,6 +185,20 @@ impl Known {
 
     /// The datatype whose type has this symbol, where the program declares it.
     pub fn datatype(&self, symbol: Sym) -> Option<&KnownType> {
+        let number = symbol.number as usize;
+        if number >= self.places.len() {
+            return self.first_of(symbol);
+        }
+        let count = self.places[number];
+        if count == 0 {
+            None
+        } else {
+            self.types.get(count - 1)
+        }
+    }
+
+    /// The first datatype whose type has this symbol.
+    fn first_of(&self, symbol: Sym) -> Option<&KnownType> {
         for known in self.types.iter() {
             if known.symbol == symbol {
                 return Some(known);

@@ -11,7 +11,7 @@ use Rattle.core_terms.specs.Trees.{Dt, Pg, De}
 use Rattle.core_typing.specs.Declarations.{Value, values}
 use Rattle.core_typing.specs.Entries.{TakesToPage, TakesFormToPage, IsEntry, by_export, by_link, by_action, EntriesFrom, no_values, neither, get_alone, post_alone, get_and_post, entries_of, value_name, program_targets, all_datatypes, DatatypesShaped, RoutesOf}
 use Rattle.site_routes.specs.Linked.{Linked, linked}
-use Rattle.site_routes.specs.Marking.{Marks, TellsTargets, decl_targets}
+use Rattle.site_routes.specs.Marking.{Marks, TellsTargets, decl_targets, TellsNumbers}
 use Rattle.site_routes.specs.Taking.{Knows, Takes, NothingTaken, EntryIs, MethodIs, listed_one, numbers_of, Kept, with_listed, AddsOne, AddsMethod, AddsBoth, Called, AddsAll, SoFar, KeepsAll}
 use Rattle.site_routes.specs.View.{value_view}
 use Rattle.site_routes.specs.declared.values.Value.{Value as Kept_value}
@@ -29,8 +29,12 @@ got_by_link p n i m r e h t l = (λ _. inr ((t false i l).0 (sym e ∙ h)), λ _
 no_link : (P : Type 0) (p : Pg) (n i : ℕ) (m : Marks) (r : Bool) → r ≡ get_or m.0 i false → r ≡ false → TellsTargets n (program_targets p) m → i < n → Contains (program_targets p) (false, i) → P
 no_link P p n i m r e h t l c = let z = (t false i l).1 c in absurd (cc)
 
-pub got_by_export : (p : Pg) (n i : ℕ) (m : Marks) (r x : Bool) → r ≡ get_or m.0 i false → r ≡ false → Decides x (Contains p.exports i) → TellsTargets n (program_targets p) m → i < n → Decides x (Called p false i)
-got_by_export p n i m r x e h d t l = (λ z. inl (d.0 z), λ c. elim c [ inl a ↦ d.1 a | inr b ↦ no_link (x ≡ true) p n i m r e h t l b ])
+pub got_by_export : (p : Pg) (n i : ℕ) (m : Marks) (r x : Bool) (es : List Bool) → r ≡ get_or m.0 i false → r ≡ false →
+    x ≡ get_or es i false → TellsTargets n (program_targets p) m → TellsNumbers n p.exports es → i < n → Decides x (Called p false i)
+got_by_export p n i m r x es e h g t u l = (
+  λ z. inl ((u i l).0 (sym g ∙ z)),
+  λ c. elim c [ inl a ↦ g ∙ (u i l).1 a | inr b ↦ no_link (x ≡ true) p n i m r e h t l b ],
+)
 
 pub posted_by : (p : Pg) (n i : ℕ) (m : Marks) (r : Bool) → r ≡ get_or m.1 i false → TellsTargets n (program_targets p) m → i < n → Decides r (Called p true i)
 posted_by p n i m r e t l = (λ z. (t true i l).0 (sym e ∙ z), λ c. e ∙ (t true i l).1 c)
@@ -101,12 +105,13 @@ pub adds_none : (p : Pg) (w called : Bool) (i : ℕ) (v : Linked) (old : Kept) �
 adds_none p w true i v old h = absurd (cc)
 adds_none p w false i v old h = (None, refl, kept_same old)
 
-pub adds_all : {X E : Type 0} (r : Result X E) (p : Pg) (names : List (List ℕ)) (ds : List Dt) (bs : List Bool) (m : Marks) (i : ℕ) (v : Linked) (old mid new : Kept) (bg bp : Bool) →
-    ((n : ℕ) → TellsTargets n (program_targets p) m → i < n → Decides bg (Called p false i)) → ((q : Pg) (n : ℕ) → TellsTargets n (program_targets q) m → i < n → Decides bp (Called q true i)) →
+pub adds_all : {X E : Type 0} (r : Result X E) (p : Pg) (names : List (List ℕ)) (ds : List Dt) (bs : List Bool) (m : Marks) (es : List Bool) (i : ℕ) (v : Linked) (old mid new : Kept) (bg bp : Bool) →
+    ((q : Pg) (n : ℕ) → TellsTargets n (program_targets q) m → TellsNumbers n q.exports es → i < n → Decides bg (Called q false i)) →
+    ((q : Pg) (n : ℕ) → TellsTargets n (program_targets q) m → i < n → Decides bp (Called q true i)) →
     ((q : Pg) → Knows q names ds bs → AddsMethod q false bg i v old mid) → OnOk r ((q : Pg) → Knows q names ds bs → AddsMethod q true bp i v mid new) →
-    OnOk r ((n : ℕ) → Knows p names ds bs → TellsTargets n (program_targets p) m → i < n → AddsAll p i v old new)
-adds_all (Ok x) p names ds bs m i v old mid new bg bp dg dp f g = λ n k t l. (bg, bp, dg n t l, dp p n t l, (mid, f p k, g p k))
-adds_all (Err x) p names ds bs m i v old mid new bg bp dg dp f g = tt
+    OnOk r ((n : ℕ) → Knows p names ds bs → TellsTargets n (program_targets p) m → TellsNumbers n p.exports es → i < n → AddsAll p i v old new)
+adds_all (Ok x) p names ds bs m es i v old mid new bg bp dg dp f g = λ n k t u l. (bg, bp, dg p n t u l, dp p n t l, (mid, f p k, g p k))
+adds_all (Err x) p names ds bs m es i v old mid new bg bp dg dp f g = tt
 
 -- the values that are left
 left_of : {X : Type 0} (xs : List X) (i : ℕ) (x : X) → slice_get xs i ≡ Some x → drop i xs ≡ x ∷ drop (suc i) xs

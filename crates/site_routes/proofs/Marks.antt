@@ -9,7 +9,7 @@ use Rattle.core_typing.specs.Declarations.{Value, values, named_values}
 use Rattle.core_typing.specs.Targets.{Target, targets, named_targets}
 use Rattle.core_typing.specs.Entries.{body_targets}
 use Rattle.carried_types.proofs.Places.{here, there, not_in_none, one_of}
-use Rattle.site_routes.specs.Marking.{Marks, mark_one, mark_all, marks_of, decl_targets, Unmarked, TellsTargets}
+use Rattle.site_routes.specs.Marking.{Marks, mark_one, mark_all, marks_of, decl_targets, Unmarked, TellsTargets, mark_numbers, TellsNumbers}
 use Rattle.site_routes.proofs.Steps.{open_at}
 use Rattle.site_routes.proofs.Names.{values_more}
 
@@ -136,3 +136,36 @@ targets_same (d ∷ ds) =
     ∙ ap (λ (ts : List Target). flat_map (λ (v : Value). body_targets v.body) (values (d ∷ [])) ++ ts) (targets_same ds)
     ∙ sym (flat_append (λ (v : Value). body_targets v.body) (values (d ∷ [])) (values ds))
     ∙ ap (flat_map (λ (v : Value). body_targets v.body)) (sym (values_more d ds))
+
+-- the marks of numbers
+numbers_keep : (es : List ℕ) (i : ℕ) (m : List Bool) → get_or m i false ≡ true → get_or (mark_numbers es m) i false ≡ true
+numbers_keep [] i m h = h
+numbers_keep (e ∷ es) i m h = numbers_keep es i (set m e true) (set_keeps m e i h)
+
+numbers_only : (es : List ℕ) (i : ℕ) (m : List Bool) → get_or (mark_numbers es m) i false ≡ true → (get_or m i false ≡ true) ⊎ Contains es i
+numbers_only [] i m h = inl h
+numbers_only (e ∷ es) i m h = elim (numbers_only es i (set m e true) h) [
+  | inl a ↦ elim (set_only m e i a) [ inl b ↦ inl b | inr same ↦ inr (subst (λ (z : ℕ). Contains (e ∷ es) z) same (here e es)) ]
+  | inr c ↦ inr (there e i es c)
+]
+
+numbers_there : (es : List ℕ) (i : ℕ) (m : List Bool) → i < length m → Contains es i → get_or (mark_numbers es m) i false ≡ true
+numbers_there [] i m h c = absurd (not_in_none i c)
+numbers_there (e ∷ es) i m h c = one_of (get_or (mark_numbers (e ∷ es) m) i false ≡ true) e i es c
+    (λ same. numbers_keep es i (set m e true) (subst (λ (z : ℕ). get_or (set m z true) i false ≡ true) (sym same) (set_there m i h)))
+    (λ d. numbers_there es i (set m e true) (let l = set_length m e in omega (arith, l)) d)
+
+pub numbers_tell : (n : ℕ) (es : List ℕ) (old new : List Bool) → length old ≡ n → ((j : ℕ) → get_or old j false ≡ false) →
+    new ≡ mark_numbers es old → TellsNumbers n es new
+numbers_tell n es old new len off e i h = (
+  λ t. elim (numbers_only es i old (ap (λ (m : List Bool). get_or m i false) (sym e) ∙ t)) [ inl a ↦ (let z = off i in absurd (cc)) | inr c ↦ c ],
+  λ c. ap (λ (m : List Bool). get_or m i false) e ∙ numbers_there es i old (omega (arith, len)) c,
+)
+
+pub numbers_on : (es : List ℕ) (e x : ℕ) (m new all : List Bool) → x ≡ get_or es e x → e < length es → new ≡ set m x true →
+    mark_numbers (drop e es) m ≡ all → mark_numbers (drop (e + 1) es) new ≡ all
+numbers_on es e x m new all is h p k =
+    ap (mark_numbers (drop (e + 1) es)) p ∙ ap (λ (ys : List ℕ). mark_numbers ys m) (sym (open_at es e x is h)) ∙ k
+
+pub numbers_end : (es : List ℕ) (e : ℕ) (m all : List Bool) → length es ≤ e → mark_numbers (drop e es) m ≡ all → m ≡ all
+numbers_end es e m all h k = sym (ap (λ (ys : List ℕ). mark_numbers ys m) (drop_of_length-le es h)) ∙ k

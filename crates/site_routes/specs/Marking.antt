@@ -50,3 +50,12 @@ pub record Unmarked (n : ℕ) (m : Marks) : Type 0 where
 -- the mark of a value tells whether it is among the targets
 abbrev pub TellsTargets : ℕ → List Target → Marks → Type 0
 TellsTargets n ts m = (post : Bool) (i : ℕ) → i < n → Decides (get_or (marks_of post m) i false) (Contains ts (post, i))
+
+-- the marks of numbers
+abbrev pub mark_numbers : List ℕ → List Bool → List Bool
+mark_numbers [] m = m
+mark_numbers (e ∷ es) m = mark_numbers es (slice_set m e true)
+
+-- the mark of a value tells whether its number is among these
+abbrev pub TellsNumbers : ℕ → List ℕ → List Bool → Type 0
+TellsNumbers n es m = (i : ℕ) → i < n → Decides (get_or m i false) (Contains es i)

@@ -2,7 +2,6 @@
 ghost use Rattle.std.specs.Prelude.{◌≡◌, ◌<◌, ◌++◌, ◌∷◌, [], get_or, Bool, ℕ};
 ghost use Rattle.std.specs.Prelude.{false, true, map, Some, None, slice_get, IfOk, OnOk};
 ghost use Rattle.std.specs.Bool.{Decides};
-ghost use Rattle.std.specs.List.{Contains};
 ghost use Rattle.con_terms.specs.Trees as con;
 ghost use Rattle.con_terms.specs.View.{con_tree};
 ghost use Rattle.core_terms.specs.Trees.{Pg};
@@ -13,7 +12,7 @@ ghost use Rattle.carried_types.specs.Pages.{arrow_parts};
 ghost use Rattle.carried_types.specs.View.{carriers_view};
 ghost use Rattle.link_router.specs.View.{entry_view, routes_view};
 ghost use Rattle.table_rows.specs.View.{datatypes_view, maybe_shape, shape_tree, shapes_from};
-ghost use Rattle.site_routes.specs.Marking.{TellsTargets};
+ghost use Rattle.site_routes.specs.Marking.{TellsNumbers, TellsTargets};
 ghost use Rattle.site_routes.specs.Taking as taking;
 ghost use Rattle.site_routes.specs.Taking.{AddsOne, ArgumentIs, EntryIs, FormIs, KeepsAll};
 ghost use Rattle.site_routes.specs.Taking.{Knows, NotLast, StepIs, TakenIs};
@@ -21,7 +20,7 @@ ghost use Rattle.site_routes.specs.View.{kept_view, maybe_entry, maybe_function,
 ghost use Rattle.site_routes.specs.View.{step_view, targets_view, value_view};
 
 use crate::shapes::{shaped, shaped_datatypes};
-use crate::targets::{Targets, called_by};
+use crate::targets::{Targets, called_by, export_marks};
 use crate::values::{Value, values_of};
 use carried_types::{Carriers, can_carry, can_fill, carriers_of, gives_page};
 use con_terms::{Con, copy_con};
@@ -375,18 +374,6 @@ fn add_called(
     }
 }
 
-/// Whether a value is among the exports.
-fn is_export(p: &Program, i: u32) -> bool
-    ensures { Decides result (Contains p.now.exports.items.items i) }
-{
-    for e in 0..p.exports.items.len() {
-        if p.exports.items[e] == i {
-            return true;
-        }
-    }
-    false
-}
-
 /// Whether a place of a list is marked.
 fn is_marked(marks: &Vec<bool>, i: usize) -> bool
     ensures { result ≡ get_or marks.now.items i false }
@@ -395,15 +382,14 @@ fn is_marked(marks: &Vec<bool>, i: usize) -> bool
 }
 
 /// Whether a value is called by GET: an export, or what a link calls.
-fn is_got(p: &Program, called: &Targets, i: usize, number: u32) -> bool
-    requires { i ≡ number }
-    ensures { (n : ℕ) → TellsTargets n (program_targets (program_view p.now)) (targets_view called.now) → i < n
-        → Decides result (taking.Called (program_view p.now) false i) }
+fn is_got(called: &Targets, exports: &Vec<bool>, i: usize) -> bool
+    ensures { (p : Pg) (n : ℕ) → TellsTargets n (program_targets p) (targets_view called.now)
+        → TellsNumbers n p.exports exports.now.items → i < n → Decides result (taking.Called p false i) }
 {
     if is_marked(&called.links, i) {
         true
     } else {
-        is_export(p, number)
+        is_marked(exports, i)
     }
 }
 
@@ -421,6 +407,7 @@ fn add_entries(
     p: &Program,
     known: &Known,
     called: &Targets,
+    exports: &Vec<bool>,
     i: usize,
     v: &Value,
     all: &mut Entries,
@@ -432,6 +419,7 @@ fn add_entries(
         (map datatype_view known.now.datatypes.items)
         (carriers_view known.now.carriers)
         → TellsTargets n (program_targets (program_view p.now)) (targets_view called.now)
+        → TellsNumbers n (program_view p.now).exports exports.now.items
         → i < n
         → taking.AddsAll
         (program_view p.now)
@@ -444,7 +432,7 @@ fn add_entries(
         return Err(AllocError);
     }
     let number = i as u32;
-    let got = is_got(p, called, i, number);
+    let got = is_got(called, exports, i);
     let posted = is_posted(called, i);
     add_called(alloc, &p.names, known, false, got, number, v, all)?;
     add_called(alloc, &p.names, known, true, posted, number, v, all)
@@ -462,12 +450,13 @@ fn entries_of(alloc: Global, p: &Program, known: &Known) -> Result<Entries, Allo
     let values = values_of(alloc, p)?;
     let count = values.len();
     let called = called_by(alloc, &p.decls, count)?;
+    let exports = export_marks(alloc, &p.exports, count)?;
     let mut all = Entries {
         entries: Vec::new(alloc),
         callees: Vec::new(alloc),
     };
     for i in 0..count {
-        add_entries(alloc, p, known, &called, i, &values[i], &mut all)?;
+        add_entries(alloc, p, known, &called, &exports, i, &values[i], &mut all)?;
     }
     Ok(all)
 }

@@ -5,13 +5,13 @@ ghost use Rattle.std.specs.List.{flat_map};
 ghost use Rattle.core_terms.specs.Lists.{attribute_tree, branch_tree, field_tree, item_tree, local_tree, node_tree};
 ghost use Rattle.core_terms.specs.View as tree;
 ghost use Rattle.core_typing.specs.Targets as meant;
-ghost use Rattle.site_routes.specs.Marking.{TellsTargets, Unmarked, attribute_targets, decl_targets};
-ghost use Rattle.site_routes.specs.Marking.{item_targets, local_targets, mark_all};
+ghost use Rattle.site_routes.specs.Marking.{TellsNumbers, TellsTargets, Unmarked, attribute_targets, decl_targets};
+ghost use Rattle.site_routes.specs.Marking.{item_targets, local_targets, mark_all, mark_numbers};
 ghost use Rattle.site_routes.specs.View.{element_tree, targets_view};
 
 use core_terms::{
-    AttrName, Attribute, Attributes, Branch, Branches, Decl, Decls, Element, Exp, Exps, Field,
-    Fields, Form, Item, Items, Local, Locals, Named, NamedList, Node, Nodes,
+    AttrName, Attribute, Attributes, Branch, Branches, Decl, Decls, Element, Exp, Exports, Exps,
+    Field, Fields, Form, Item, Items, Local, Locals, Named, NamedList, Node, Nodes,
 };
 use std::alloc::{AllocError, Global};
 
@@ -44,6 +44,24 @@ fn no_targets(alloc: Global, count: usize) -> Result<Targets, AllocError>
     let links = no_marks(alloc, count)?;
     let actions = no_marks(alloc, count)?;
     Ok(Targets { links, actions })
+}
+
+/// Marks the values that are exports.
+fn mark_exports(exports: &Exports, marks: &mut Vec<bool>)
+    ensures { marks.new.items ≡ mark_numbers exports.now.items.items marks.old.items }
+{
+    for e in 0..exports.items.len() {
+        set(marks, exports.items[e] as usize);
+    }
+}
+
+/// For each of so many values whether it is an export.
+pub fn export_marks(alloc: Global, exports: &Exports, count: usize) -> Result<Vec<bool>, AllocError>
+    ensures { IfOk result (λ v. TellsNumbers count exports.now.items.items v.items) }
+{
+    let mut marks = no_marks(alloc, count)?;
+    mark_exports(exports, &mut marks);
+    Ok(marks)
 }
 
 /// The top-level value that a term is.

@@ -8,6 +8,7 @@ mod cons;
 mod here;
 mod known;
 mod marked;
+mod marks;
 mod parts;
 mod texts;
 mod types;

@@ -15,7 +15,7 @@ loop-i-preserved c = λ k.
     let l : c.loop-i.i < c.len-count.result = omega arith in
     so_far_more p (map value_view vs.items) c.loop-i.i (value_view c.index.result.now) (kept_view c.loop-i.all) (kept_view c.add_entries.new.all) c.in_ok-values.ensures
     (view_at vs.items c.loop-i.i c.index.result.now c.index.ensures h)
-    (c.in_ok-add_entries.ensures c.len-count.result k (tells_by p c.len-count.result (targets_view c.in_ok-called.called) c.in_ok-called.ensures) l)
+    (c.in_ok-add_entries.ensures c.len-count.result k (tells_by p c.len-count.result (targets_view c.in_ok-called.called) c.in_ok-called.ensures) c.in_ok-exports.ensures l)
     (c.loop-i.invariant k)
 
 pub returns : goal.returns
