@@ -16,6 +16,8 @@ pub mod EntryNames
 pub mod EntriesApart
 -- What is told of the entries of a list, one after another (for `told_at`, `entries_told`).
 pub mod EntryFaults
+-- Keys of entries, and tables of them (for `add_pieces`, `key_of`, `is_second`).
+pub mod EntryKeys
 -- Where the values of a program stand, and copies of names (for `add_places`, `copy_texts`, `places`).
 pub mod EntryPlaces
 -- What is told of a datatype: kinds of what constructors hold, and names that stand twice (for ToldDeclarations).

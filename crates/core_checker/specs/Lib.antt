@@ -10,3 +10,5 @@ pub mod Declarations
 pub mod View
 -- What a program tells.
 pub mod Told
+-- Texts by which most entries that aren't one call differ.
+pub mod Keys

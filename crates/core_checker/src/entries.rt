@@ -1,15 +1,18 @@
 //! Entries of one name that are read by one method.
-ghost use Rattle.std.specs.Prelude.{◌≡◌, ◌<◌, ◌++◌, ◌∷◌, [], get_or, length, map, IfOk, OnOk};
+ghost use Rattle.std.specs.Prelude.{◌≡◌, ◌<◌, ◌+◌, ◌++◌, ◌∷◌, [], List, ℕ, get_or, if◌then◌else◌, length, map, IfOk, OnOk};
 ghost use Rattle.std.specs.Bool.{Decides};
+ghost use Rattle.std.specs.List.{Contains};
 ghost use Rattle.core_terms.specs.View.{decl_tree, named_list_tree, named_tree, program_view};
 ghost use Rattle.link_router.specs.Calls.{is_post as posts};
 ghost use Rattle.link_router.specs.View.{entry_view};
 ghost use Rattle.told_faults.specs.Told.{Picks};
 ghost use Rattle.type_faults.specs.View.{maybe_fault};
+ghost use Rattle.core_checker.specs.Keys as keys;
 ghost use Rattle.core_checker.specs.Twice.{all_places, decl_places, named_places};
 ghost use Rattle.core_checker.specs.Twice.{CalledAt, NameAt, SameCall, SecondEntry, ToldTwice, Twice as TwiceAt};
 
 use con_terms::place::Place;
+use con_terms::symbol::SymTable;
 use core_terms::{Decl, Named, NamedList, Program};
 use link_router::routes::Entry;
 use site_routes::routes;
@@ -80,6 +83,82 @@ fn is_twice(entries: &Vec<Entry>, j: usize) -> bool
         }
     }
     false
+}
+
+/// Adds a piece of a name and a dot to a text.
+fn add_piece(piece: &Text, key: &mut Text) -> Result<(), AllocError>
+    ensures { OnOk result (key.new ≡ key.old ++ piece.now ++ 46 ∷ []) }
+{
+    key.push_str(piece.as_str())?;
+    key.push_str(".")
+}
+
+/// Adds the pieces of a name to a text.
+#[tactic(auto, using(crate::proofs::EntryKeys::pieces_on, crate::proofs::EntryKeys::pieces_end))]
+fn add_pieces(name: &Texts, key: &mut Text) -> Result<(), AllocError>
+    ensures { OnOk result (key.new ≡ key.old ++ keys.dotted name.now) }
+{
+    for i in 0..name.len() {
+        add_piece(name.at(i), key)?;
+    }
+    Ok(())
+}
+
+/// What a key begins with.
+fn key_start(alloc: Global, post: bool) -> Result<Text, AllocError>
+    ensures { IfOk result (λ t. t ≡ (if post then 80 else 71) ∷ []) }
+{
+    if post {
+        Text::of(alloc, "P")
+    } else {
+        Text::of(alloc, "G")
+    }
+}
+
+/// A text by which most entries that aren't one call differ.
+#[tactic(auto, using(crate::proofs::EntryKeys::key_is))]
+fn key_of(alloc: Global, e: &Entry) -> Result<Text, AllocError>
+    ensures { IfOk result (λ t. t ≡ keys.key_of (entry_view e.now)) }
+{
+    let post = is_post(e);
+    let mut key = key_start(alloc, post)?;
+    add_pieces(&e.name, &mut key)?;
+    Ok(key)
+}
+
+/// Puts a text into a table. Whether it was there is the answer.
+#[tactic(auto, using(crate::proofs::EntryKeys::kept_by))]
+fn put_key(table: &mut SymTable, key: &Text) -> Result<bool, AllocError>
+    ensures known { IfOk result (λ b. Decides b (Contains table.old key.now)) }
+    ensures kept { OnOk result ((x : List ℕ) → Contains table.old x → Contains table.new x) }
+    ensures there { OnOk result (Contains table.new key.now) }
+{
+    let known = table.find(key.as_str()).is_some();
+    table.intern(key.as_str())?;
+    Ok(known)
+}
+
+/// Whether the entry at a place has the name and the method of an earlier one. The keys of the earlier ones are in the
+/// table, and its own is afterwards: where it wasn't, no earlier one is compared.
+#[tactic(auto, using(crate::proofs::EntryKeys::second_not, crate::proofs::EntryKeys::second_noted))]
+fn is_second(
+    alloc: Global,
+    table: &mut SymTable,
+    entries: &Vec<Entry>,
+    j: usize,
+) -> Result<bool, AllocError>
+    requires within { j < length entries.now.items }
+    requires before { keys.HasKeys (map entry_view entries.now.items) j table.old }
+    ensures twice { IfOk result (λ b. Decides b (TwiceAt (map entry_view entries.now.items) j)) }
+    ensures noted { OnOk result (keys.HasKeys (map entry_view entries.now.items) (j + 1) table.new) }
+{
+    let key = key_of(alloc, &entries[j])?;
+    let known = put_key(table, &key)?;
+    if known {
+        Ok(is_twice(entries, j))
+    } else {
+        Ok(false)
+    }
 }
 
 /// A copy of the text at a place.
@@ -172,13 +251,14 @@ fn told_at(
     callees: &Vec<u32>,
     entries: &Vec<Entry>,
     j: usize,
+    twice: bool,
 ) -> Result<Option<Fault>, AllocError>
-    requires { j < length entries.now.items }
+    requires within { j < length entries.now.items }
+    requires twice { Decides twice (TwiceAt (map entry_view entries.now.items) j) }
     ensures { IfOk result (λ o. Picks
         (ToldTwice (map entry_view entries.now.items) places.now.items callees.now.items j)
         (maybe_fault o)) }
 {
-    let twice = is_twice(entries, j);
     if twice {
         let place = place_called(places, callees, j)?;
         let name = name_at(alloc, entries, j)?;
@@ -196,9 +276,11 @@ pub fn entries_told(alloc: Global, p: &Program) -> Result<Option<Fault>, AllocEr
     let entries = &site.routes.entries;
     let callees = &site.callees;
     let places = places(alloc, p)?;
+    let mut table = SymTable::new(alloc);
     let mut told = None;
     for j in 0..entries.len() {
-        let second = told_at(alloc, &places, callees, entries, j)?;
+        let twice = is_second(alloc, &mut table, entries, j)?;
+        let second = told_at(alloc, &places, callees, entries, j, twice)?;
         told = first(told, second);
     }
     Ok(told)

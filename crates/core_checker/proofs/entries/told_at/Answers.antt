@@ -6,4 +6,4 @@ use Rattle.core_checker.proofs.entries.told_at.Goals as goal
 pub returns-in_ok-name : goal.returns-in_ok-name
 returns-in_ok-name c =
     picks_twice (map entry_view c.args.entries.now.items) c.args.places.now.items c.args.callees.now.items c.args.j
-    c.in_ok-place.place c.in_ok-name.name (c.is_twice-twice.ensures.0 c.if-twice.true) c.in_ok-place.ensures c.in_ok-name.ensures
+    c.in_ok-place.place c.in_ok-name.name (c.requires.twice.0 c.if-twice.true) c.in_ok-place.ensures c.in_ok-name.ensures
