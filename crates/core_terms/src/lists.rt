@@ -8,8 +8,8 @@ use crate::exp::{
 use crate::pat::{PatField, PatFields};
 use std::alloc::{AllocError, Global};
 
-/// Adds an element at the end. An `Err` changes nothing. What is added is let go here where there is no memory for it, so
-/// that no list does so for the wide type of its own elements.
+/// Adds an element at the end. An `Err` changes nothing. What is added is let go here where there is no memory for it,
+/// so that no list does so for the wide type of its own elements.
 pub(crate) fn add<T: Drop>(items: &mut Vec<T>, item: T) -> Result<(), AllocError>
     ensures grown { OnOk result (items.new.items ≡ items.old.items ++ item ∷ []) }
     ensures kept { OnErr result (items.new.items ≡ items.old.items) }

@@ -12,8 +12,8 @@ use Rattle.name_scopes.specs.declared.fault.ElabFault.TheVariants as elab
 abbrev pub IsNamed : List ℕ → List ℕ → Type 0
 IsNamed name text = (more : List ℕ) × (text ≡ (name ++ codes " ") ++ more)
 
--- The text of a name that isn't bound and that the checker tells: an attribute that its tag hasn't, or an input's name in
--- no form. All other names inference tells, which has none of these.
+-- The text of a name that isn't bound and that the checker tells: an attribute that its tag hasn't, or an input's name
+-- in no form. All other names inference tells, which has none of these.
 abbrev pub IsUnboundText : Unbound → List ℕ → Type 0
 IsUnboundText (a_variable i) text = ⊥
 IsUnboundText (a_value i) text = ⊥
@@ -43,8 +43,8 @@ abbrev pub IsToldOf : Fault → Place → List ℕ → Type 0
 IsToldOf fault place text = (place ≡ at fault) × IsTextOf fault text
 
 -- What is told of a fault of inference: its place, and its text. A name that isn't bound is told whole. Want of memory
--- isn't told, and neither is a symbol that is wanted, for which the declaration is elaborated anew, nor a form that isn't
--- built yet: such forms are told before inference begins.
+-- isn't told, and neither is a symbol that is wanted, for which the declaration is elaborated anew, nor a form that
+-- isn't built yet: such forms are told before inference begins.
 abbrev pub IsToldOfElaboration : ElabFault → Place → List ℕ → Type 0
 IsToldOfElaboration (elab.Unbound p name) place text = (place ≡ p) × (text ≡ codes "Unbound " ++ name)
 IsToldOfElaboration (elab.Told fault) place text = IsToldOf (fault_tree fault) place text

@@ -129,8 +129,8 @@ fn named(alloc: Global, known: &Known, name: &str, fault: &Fault) -> Result<Stri
     Ok(text)
 }
 
-/// The text of a name that isn't bound and that the checker tells. All other names inference tells, so that they count as
-/// want of memory here.
+/// The text of a name that isn't bound and that the checker tells. All other names inference tells, so that they count
+/// as want of memory here.
 fn unbound(alloc: Global, name: &Name) -> Result<String, AllocError>
     ensures { IfOk result (λ text. IsUnboundText (name_tree name.now) (string_bytes text)) }
 {

@@ -238,8 +238,8 @@ fn modules_chosen(
 
 /// Whether the folders and instances that a program inserts are those that their rules choose: of a folder the fields
 /// of its row in the written order, of an instance the last value that is declared for its class and type. Its modules
-/// have these names and trees. It takes a time that grows with the program and, for each instance, with what is declared
-/// before.
+/// have these names and trees. It takes a time that grows with the program and, for each instance, with what is
+/// declared before.
 pub fn inserts_chosen(
     alloc: Global,
     names: &Texts,

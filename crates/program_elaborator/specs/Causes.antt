@@ -1,7 +1,7 @@
 -- What has to hold of a refusal before it is told: a name that is told as unbound stands at its place and isn't in
--- scope there; the two types that a mismatch tells have normal forms that differ; the two kinds that one tells differ; and
--- names alone don't show the two rows to be disjoint that are told not to be, or one of these is too large to compare.
--- Guards that are in scope aren't looked at.
+-- scope there; the two types that a mismatch tells have normal forms that differ; the two kinds that one tells differ;
+-- and names alone don't show the two rows to be disjoint that are told not to be, or one of these is too large to
+-- compare. Guards that are in scope aren't looked at.
 use Rattle.std.specs.Prelude.{Bool, true, false, not, List, [], Option, Some, None}
 use Rattle.con_terms.specs.Same.{kd_eq}
 use Rattle.con_terms.specs.View.{con_tree, kind_tree}

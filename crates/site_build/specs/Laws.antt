@@ -7,8 +7,8 @@ use Rattle.site_build.specs.Causes.{IsCauseIn, IsCauseOfText}
 use Rattle.site_build.specs.declared.fault.BuildFault.{BuildFault}
 use Rattle.site_build.specs.declared.fault.BuildFault.TheVariants.{Source, NotBuilt, Refused, ReadFault, Memory}
 
--- Both are one fault, where faults of sources are one as `same` says. What inference and the checker refuse counts as one
--- here, and nothing is said of want of memory and failures of the outside.
+-- Both are one fault, where faults of sources are one as `same` says. What inference and the checker refuse counts as
+-- one here, and nothing is said of want of memory and failures of the outside.
 abbrev pub AreOne : (SourceFault → SourceFault → Type 0) → BuildFault → BuildFault → Type 0
 AreOne same (Source fault) (Source other) = same fault other
 AreOne same (Source fault) (NotBuilt file at) = ⊥

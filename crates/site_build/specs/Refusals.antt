@@ -19,8 +19,8 @@ use Rattle.site_build.specs.Sources.{IsProgramOf}
 abbrev pub begins_at : ℕ → Token → Bool
 begins_at at token = nat_eq token.at at
 
--- The byte of a file that a place is: the file is that of the module with the place's number, counted from 0, and a token
--- of the module begins at the byte.
+-- The byte of a file that a place is: the file is that of the module with the place's number, counted from 0, and a
+-- token of the module begins at the byte.
 abbrev pub IsAt : List ModuleTrees → Place → List ℕ → ℕ → Type 0
 IsAt ms place file at = (m : ModuleTrees) × (slice_get ms place.file ≡ Some m) × (file ≡ module_file m.line)
     × (at ≡ place.at) × (list_any (begins_at at) (spell m.tree) ≡ true)
@@ -32,8 +32,8 @@ IsUninferred p place told = (fault : ElabFault)
     × (is_caused (names_said p.modules) (trees_said p.modules) p.said.effects fault ≡ true)
     × IsToldOfElaboration fault place told
 
--- The checker refuses a program that is what the project says, for a fault that is told so: a first one in text order of
--- the premises of typing that fail in the program, by the places that the program has.
+-- The checker refuses a program that is what the project says, for a fault that is told so: a first one in text order
+-- of the premises of typing that fail in the program, by the places that the program has.
 abbrev pub IsUnchecked : ProjectTrees → Place → List ℕ → Type 0
 IsUnchecked p place told = (g : Pg) × IsProgramOf p g
     × (fault : Fault) × ProgramTells g fault × IsToldOf fault place told

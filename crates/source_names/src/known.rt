@@ -208,7 +208,8 @@ impl Known {
         requires mark { mark ≡ marks.mark_of name.now }
         requires within { count ≤ length self.now.values.items }
         ensures less { result ≤ count }
-        ensures same { (home : ℕ) → standing.value_in name.now (reverse (map value_view (take count self.now.values.items))) home
+        ensures same { (home : ℕ) → standing.value_in name.now
+            (reverse (map value_view (take count self.now.values.items))) home
             ≡ standing.value_in name.now (reverse (map value_view (take result self.now.values.items))) home }
     {
         self.value_marks.up_to(mark, count)
@@ -244,7 +245,8 @@ impl Known {
         requires mark { mark ≡ marks.mark_of name.now }
         requires within { count ≤ length self.now.types.items }
         ensures less { result ≤ count }
-        ensures same { (home : ℕ) → standing.type_in name.now (reverse (map type_view (take count self.now.types.items))) home
+        ensures same { (home : ℕ) → standing.type_in name.now
+            (reverse (map type_view (take count self.now.types.items))) home
             ≡ standing.type_in name.now (reverse (map type_view (take result self.now.types.items))) home }
     {
         self.type_marks.up_to(mark, count)
@@ -283,7 +285,8 @@ impl Known {
         requires mark { mark ≡ marks.mark_of name.now }
         requires within { count ≤ length self.now.builders.items }
         ensures less { result ≤ count }
-        ensures same { (home : ℕ) → standing.builder_in name.now (reverse (map builder_view (take count self.now.builders.items))) home
+        ensures same { (home : ℕ) → standing.builder_in name.now
+            (reverse (map builder_view (take count self.now.builders.items))) home
             ≡ standing.builder_in name.now (reverse (map builder_view (take result self.now.builders.items))) home }
     {
         self.builder_marks.up_to(mark, count)
