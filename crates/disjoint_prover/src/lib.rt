@@ -8,6 +8,6 @@ pub mod guards;
 pub mod laws;
 pub mod prover;
 
-pub use fault::{DisjointFault, Pieces};
+pub use fault::DisjointFault;
 pub use guards::{Guards, Sides};
 pub use prover::disjoint;

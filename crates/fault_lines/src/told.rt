@@ -7,7 +7,7 @@ use crate::names::twice;
 use crate::shapes::shape;
 use con_terms::Place;
 use core_terms::{Program, Symbols};
-use disjoint_prover::Pieces;
+use disjoint_prover::fault::Pieces;
 use explicit_text::cons::WHOLE;
 use explicit_text::tasks::{con, kind, word};
 use explicit_text::{Known, Printer, Scope, Style, Tasks, run};

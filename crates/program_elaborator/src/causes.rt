@@ -8,7 +8,8 @@ ghost use Rattle.program_elaborator.specs.Causes.{differ as are_different, is_ca
 use crate::fault::{Refusal, memory};
 use crate::program::Source;
 use con_terms::{Kind, same_kind};
-use disjoint_prover::{Guards, Pieces};
+use disjoint_prover::Guards;
+use disjoint_prover::fault::Pieces;
 use kind_rules::compare::{Comparison, compare, flaw_between};
 use kind_rules::flaw::Differing;
 use name_scopes::ElabFault;

@@ -3,7 +3,7 @@
 //! A fault that keeps constructors keeps what the constructor variables in scope are called, the innermost first.
 use con_terms::{Con, Kind, Place, Sym};
 use core_terms::{AttrName, Symbols};
-use disjoint_prover::Pieces;
+use disjoint_prover::fault::Pieces;
 use kind_rules::flaw::Differing;
 use table_rows::{Text, Texts};
 
