@@ -13,10 +13,6 @@ use type_makers::{arrow_kind, basis_datatypes, constructor_type, named_kind, row
 /// want of memory, since letting go of a scope takes stack for each.
 pub const MOST_TYPES: u32 = 10_000;
 
-/// How many kinds stand one by one in a scope before it is made anew, with all of them in one list: a look-up goes
-/// through those that stand one by one first.
-const ONE_BY_ONE: usize = 64;
-
 /// A value at the top.
 #[derive(Drop)]
 pub struct TopValue {
@@ -62,10 +58,6 @@ pub struct Tops {
     /// The symbols of `folder`.
     pub folders: Folders,
     kinds: Kinds,
-    /// The kinds of all basic names, in the order in which they were given.
-    basics: Vec<Basic>,
-    /// How many of them stand one by one in the scope.
-    one_by_one: usize,
     /// How many types and folders were declared.
     declared: u32,
 }
@@ -94,26 +86,13 @@ const BASIS_TYPES: [(Sym, TypeName); 19] = [
 ];
 
 /// The kinds of the types of the basis.
-fn basis_kinds(alloc: Global) -> Result<Vec<Basic>, AllocError> {
+fn basis_kinds(alloc: Global) -> Result<Kinds, AllocError> {
     let mut basics = Vec::new(alloc);
     for (name, called) in BASIS_TYPES {
         let kind = named_kind(alloc, called)?;
         basics.push(Basic { name, kind })?;
     }
-    Ok(basics)
-}
-
-/// A scope of basic names alone.
-fn scope_of(alloc: Global, basics: &Vec<Basic>) -> Result<Kinds, AllocError> {
-    let mut copies = Vec::with_capacity(alloc, basics.len())?;
-    for i in 0..basics.len() {
-        let kind = copy_kind(alloc, &basics[i].kind)?;
-        copies.push(Basic {
-            name: basics[i].name,
-            kind,
-        })?;
-    }
-    Kinds::new(alloc).with_basics(copies)
+    Kinds::new(alloc).with_basics(basics)
 }
 
 /// A number for what stands at this place; none above 2^32 - 1, which counts as want of memory.
@@ -151,7 +130,6 @@ fn capital(alloc: Global, name: &str) -> Result<Text, AllocError> {
 impl Tops {
     /// What every program has, where these are the symbols of all texts of its sources.
     pub fn new(alloc: Global, names: SymTable, foreign: Foreigns) -> Result<Tops, AllocError> {
-        let basics = basis_kinds(alloc)?;
         let mut tops = Tops {
             alloc,
             names,
@@ -165,9 +143,7 @@ impl Tops {
             folders: Folders {
                 items: Vec::new(alloc),
             },
-            kinds: scope_of(alloc, &basics)?,
-            basics,
-            one_by_one: 0,
+            kinds: basis_kinds(alloc)?,
             declared: 0,
         };
         let datatypes = basis_datatypes(alloc)?;
@@ -232,14 +208,7 @@ impl Tops {
             return Err(AllocError);
         }
         self.declared += 1;
-        if self.one_by_one >= ONE_BY_ONE {
-            self.kinds = scope_of(self.alloc, &self.basics)?;
-            self.one_by_one = 0;
-        }
-        let copied = copy_kind(self.alloc, kind)?;
-        self.basics.push(Basic { name, kind: copied })?;
         self.kinds = self.kinds.with_basic(name, kind)?;
-        self.one_by_one += 1;
         Ok(())
     }
 

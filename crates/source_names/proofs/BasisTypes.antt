@@ -12,7 +12,7 @@ unless_true : (b : Bool) → (b ≡ true → ⊥) → b ≡ false
 unless_true true h = absurd (h refl)
 unless_true false h = refl
 
-pub differs : (x y : Words) → x ≢ y → bytes_eq x y ≡ false
+differs : (x y : Words) → x ≢ y → bytes_eq x y ≡ false
 differs x y h = unless_true (bytes_eq x y) (λ e. h ((bytes_eq-Decides x y).0 e))
 
 called_by_its_text : (n : TypeName) → type_called (type_text n) type_names ≡ Some n

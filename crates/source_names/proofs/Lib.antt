@@ -1,5 +1,3 @@
--- Marks in order, with the last one before each in its bucket (for `Marks`).
-pub mod Chaining
 -- Modules and what they declare, from the latest on (for `Known`).
 pub mod Homes
 -- The types that every program has, by their names (for `names_type`).
@@ -8,5 +6,3 @@ pub mod BasisTypes
 pub mod Nested
 -- Two lists side by side (for `reads_con`).
 pub mod Walked
--- The latest declaration of a name, by marks (for `Known`).
-pub mod Latest

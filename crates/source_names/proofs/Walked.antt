@@ -61,7 +61,7 @@ pub all_sources : (cs : source_cons.Cons) (n : ℕ) → length (views.out-Cons c
     plain.cons_tree cs ≡ sources (take n (views.out-Cons cs).items.items)
 all_sources cs n h = sources_are cs ∙ ap sources (sym (take_all n (views.out-Cons cs).items.items h))
 
-pub and_false : (b : Bool) → (b && false) ≡ false
+and_false : (b : Bool) → (b && false) ≡ false
 and_false true = refl
 and_false false = refl
 

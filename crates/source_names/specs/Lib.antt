@@ -10,7 +10,3 @@ pub mod View
 pub mod Parts
 -- Numbers by which most texts differ.
 pub mod Marks
--- Marks in order, of which the last one of a number is found without a look at each.
-pub mod Chains
--- The marks of what modules declare.
-pub mod Named

@@ -1,16 +1,12 @@
 //! What is declared so far.
-ghost use Rattle.std.specs.Prelude.{◌≡◌, ◌-◌, ◌≤◌, ◌&&◌, ℕ, nat_le, length, map, reverse, take, option_map, OnOk, if◌then◌else◌};
+ghost use Rattle.std.specs.Prelude.{◌≡◌, ◌-◌, ◌≤◌, ◌&&◌, nat_le, length, map, reverse, take, option_map, OnOk, if◌then◌else◌};
 ghost use Rattle.std.specs.Str.{bytes_eq};
-ghost use Rattle.std.proofs.Props.{props};
 ghost use Rattle.con_terms.specs.View.{con_tree};
-ghost use Rattle.source_names.specs.Chains.{IsFront};
-ghost use Rattle.source_names.specs.Marks as marks;
-ghost use Rattle.source_names.specs.Named.{mark_of_builder, mark_of_type, mark_of_value};
 ghost use Rattle.source_names.specs.Scopes as scopes;
 ghost use Rattle.source_names.specs.Standing as standing;
+ghost use Rattle.source_names.specs.View.{builder_found, declared_view};
 
 use crate::marked::{KnownValue, is_value, mark_of};
-use crate::marks::{Marks, put_mark};
 use crate::texts::same_text;
 use con_terms::con::Con;
 use con_terms::copy::copy_con;
@@ -44,13 +40,6 @@ pub struct Known {
     pub values: Vec<KnownValue>,
     pub types: Vec<KnownType>,
     pub builders: Vec<KnownBuilder>,
-    /// The marks of their names. Where memory was short for one, they are those of the front before it.
-    value_marks: Marks,
-    type_marks: Marks,
-    builder_marks: Marks,
-    ghost values_marked: { IsFront value_marks (map mark_of_value values.items) } by { Prim.hlevel props },
-    ghost types_marked: { IsFront type_marks (map mark_of_type types.items) } by { Prim.hlevel props },
-    ghost builders_marked: { IsFront builder_marks (map mark_of_builder builders.items) } by { Prim.hlevel props },
 }
 
 /// A letter, or its capital where it is a small one.
@@ -88,8 +77,6 @@ fn is_capital(name: &[u8], text: &[u8]) -> bool
 }
 
 impl Known {
-    ghost use Rattle.source_names.specs.View.{builder_found, builder_view, declared_view, type_view, value_view};
-
     /// Nothing declared.
     pub fn new(alloc: Global) -> Known
         ensures { declared_view result ≡ scopes.nothing_declared }
@@ -99,9 +86,6 @@ impl Known {
             values: Vec::new(alloc),
             types: Vec::new(alloc),
             builders: Vec::new(alloc),
-            value_marks: Marks::new(alloc),
-            type_marks: Marks::new(alloc),
-            builder_marks: Marks::new(alloc),
         }
     }
 
@@ -128,9 +112,8 @@ impl Known {
         let home = self.last_home();
         let name = name.copy(alloc)?;
         let mark = mark_of(&name);
-        let count = self.values.len();
         self.values.push(KnownValue { home, mark, name })?;
-        put_mark(alloc, &mut self.value_marks, count, mark)
+        Ok(())
     }
 
     /// Declares a name of the type level in the module that is read. What it means is copied.
@@ -141,10 +124,8 @@ impl Known {
         let home = self.last_home();
         let name = name.copy(alloc)?;
         let means = copy_con(alloc, means)?;
-        let mark = mark_of(&name);
-        let count = self.types.len();
         self.types.push(KnownType { home, name, means })?;
-        put_mark(alloc, &mut self.type_marks, count, mark)
+        Ok(())
     }
 
     /// Declares a constructor of a datatype in the module that is read.
@@ -160,15 +141,13 @@ impl Known {
     {
         let home = self.last_home();
         let name = name.copy(alloc)?;
-        let mark = mark_of(&name);
-        let count = self.builders.len();
         self.builders.push(KnownBuilder {
             home,
             name,
             datatype,
             index,
         })?;
-        put_mark(alloc, &mut self.builder_marks, count, mark)
+        Ok(())
     }
 
     /// The number of the first of so many modules that a name with a capital is the one of.
@@ -203,30 +182,17 @@ impl Known {
         }
     }
 
-    /// Of the first so many values those up to the last one whose name has a mark. None behind it has the name.
-    fn values_up_to(&self, name: &Text, mark: u64, count: usize) -> usize
-        requires mark { mark ≡ marks.mark_of name.now }
-        requires within { count ≤ length self.now.values.items }
-        ensures less { result ≤ count }
-        ensures same { (home : ℕ) → standing.value_in name.now
-            (reverse (map value_view (take count self.now.values.items))) home
-            ≡ standing.value_in name.now (reverse (map value_view (take result self.now.values.items))) home }
-    {
-        self.value_marks.up_to(mark, count)
-    }
-
     /// The number of the latest value of a name in a module.
     pub fn value_in(&self, name: &Text, home: usize) -> Option<usize>
         ensures { result ≡ standing.value_in name.now (declared_view self.now).values home }
     {
         let mark = mark_of(name);
-        let mut left = self.values_up_to(name, mark, self.values.len());
+        let mut left = self.values.len();
         while left > 0 {
             left -= 1;
             if is_value(&self.values[left], home, mark, name) {
                 return Some(left);
             }
-            left = self.values_up_to(name, mark, left);
         }
         None
     }
@@ -240,32 +206,18 @@ impl Known {
         self.value_in(&path.name, home)
     }
 
-    /// Of the first so many types those up to the last one whose name has a mark. None behind it has the name.
-    fn types_up_to(&self, name: &Text, mark: u64, count: usize) -> usize
-        requires mark { mark ≡ marks.mark_of name.now }
-        requires within { count ≤ length self.now.types.items }
-        ensures less { result ≤ count }
-        ensures same { (home : ℕ) → standing.type_in name.now
-            (reverse (map type_view (take count self.now.types.items))) home
-            ≡ standing.type_in name.now (reverse (map type_view (take result self.now.types.items))) home }
-    {
-        self.type_marks.up_to(mark, count)
-    }
-
     /// The latest name of the type level in a module.
     fn type_in(&self, name: &Text, home: usize) -> Option<&KnownType>
         ensures { option_map (λ t. con_tree t.now.means) result
             ≡ standing.type_in name.now (declared_view self.now).types home }
     {
-        let mark = mark_of(name);
-        let mut left = self.types_up_to(name, mark, self.types.len());
+        let mut left = self.types.len();
         while left > 0 {
             left -= 1;
             let known = &self.types[left];
             if known.home == home && same_text(&known.name, name) {
                 return Some(known);
             }
-            left = self.types_up_to(name, mark, left);
         }
         None
     }
@@ -280,32 +232,18 @@ impl Known {
         self.type_in(&path.name, home)
     }
 
-    /// Of the first so many builders those up to the last one whose name has a mark. None behind it has the name.
-    fn builders_up_to(&self, name: &Text, mark: u64, count: usize) -> usize
-        requires mark { mark ≡ marks.mark_of name.now }
-        requires within { count ≤ length self.now.builders.items }
-        ensures less { result ≤ count }
-        ensures same { (home : ℕ) → standing.builder_in name.now
-            (reverse (map builder_view (take count self.now.builders.items))) home
-            ≡ standing.builder_in name.now (reverse (map builder_view (take result self.now.builders.items))) home }
-    {
-        self.builder_marks.up_to(mark, count)
-    }
-
     /// The latest constructor of a name in a module.
     fn builder_in(&self, name: &Text, home: usize) -> Option<&KnownBuilder>
         ensures { option_map (λ b. builder_found b.now) result
             ≡ standing.builder_in name.now (declared_view self.now).builders home }
     {
-        let mark = mark_of(name);
-        let mut left = self.builders_up_to(name, mark, self.builders.len());
+        let mut left = self.builders.len();
         while left > 0 {
             left -= 1;
             let known = &self.builders[left];
             if known.home == home && same_text(&known.name, name) {
                 return Some(known);
             }
-            left = self.builders_up_to(name, mark, left);
         }
         None
     }

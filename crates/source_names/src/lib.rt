@@ -8,7 +8,6 @@ mod cons;
 mod here;
 mod known;
 mod marked;
-mod marks;
 mod parts;
 mod texts;
 mod types;
