@@ -26,7 +26,8 @@ use table_rows::{Text, Texts};
 use ur_outside::Files;
 
 /// Builds the project in a folder. `objects` are the foreign modules that are there. The program that it gives is
-/// accepted, and is what the folder's files say; a fault has its cause in them.
+/// accepted, and is what the folder's files say; a fault has the cause in them that `IsCauseIn` gives, which says little
+/// of what inference refuses.
 pub fn build<T: Terms + Drop, F: Files>(
     alloc: Global,
     terms: &T,
@@ -121,7 +122,7 @@ fn many_tables_alone(alloc: Global) -> Result<BuildFault, AllocError>
 }
 
 /// Builds a module alone, as file `Main.ur`. The program that it gives is accepted, and is what the module says; a
-/// fault has its cause in it.
+/// fault has the cause in it that `IsCauseOfText` gives.
 pub fn build_text<T: Terms + Drop>(
     alloc: Global,
     terms: &T,
