@@ -26,8 +26,8 @@ use table_rows::{Text, Texts};
 use ur_outside::Files;
 
 /// Builds the project in a folder. `objects` are the foreign modules that are there. The program that it gives is
-/// accepted, and is what the folder's files say; a fault has the cause in them that `IsCauseIn` gives, which says little
-/// of what inference refuses.
+/// accepted, and is what the folder's files say; a fault has the cause in them that `IsCauseIn` gives, which says
+/// little of what inference refuses.
 pub fn build<T: Terms + Drop, F: Files>(
     alloc: Global,
     terms: &T,
