@@ -40,6 +40,28 @@ def project_of(**changed):
     return {**ONE_MODULE, **{names[key]: text for key, text in changed.items()}}
 
 
+def lines_of_tables():
+    """Each case: its name, the project file, how many tables each module declares, and the line that is told."""
+    many, three, alone = MOST + 1, "\na\nb\nmain\n", {"main": MOST + 1}
+    directives = {"debug": 600, "sql": many, "main": 0}
+    alike = {"mai": 0, "mainn": 0, "main": many, "ma": 0}
+    return (
+        ("the second of three modules", three, {"a": 0, "b": many, "main": 0}, 3),
+        ("the first of three", three, {"a": many, "b": many, "main": 1}, 2),
+        ("the second goes beyond", three, {"a": 600, "b": 401, "main": many}, 3),
+        ("one table more", three, {"a": MOST, "b": 1, "main": 1}, 3),
+        ("a module without tables between", three, {"a": MOST, "b": 0, "main": 1}, 4),
+        ("comments", "# one\n#main\n\n# two\n#main\nmain\n# three\n", alone, 6),
+        ("empty lines", "\n\n\nmain\n\n\n", alone, 4),
+        ("directives", "database main\nallow url main\ndebug\n\nmain\n", alone, 5),
+        ("modules that are called as directives", "debug\nsql\n\ndebug\nsql\nmain\n", directives, 5),
+        ("carriage returns", "# one\r\nsql main\r\n\r\n\r\na\r\nmain\r\n", {"a": 1, "main": MOST}, 6),
+        ("carriage returns at some lines", "sql\n\r\na\nmain\r\n", {"a": 1, "main": MOST}, 4),
+        ("no end of the last line", "\na\nmain", {"a": 1, "main": MOST}, 3),
+        ("names that begin alike", "\nmai\nmainn\nmain\nma\n", alike, 4),
+    )
+
+
 def of_tables():
     """Tables aren't built yet: where they are few enough, the first one is told."""
     for count, line in ((MOST, "main.ur:0: NotBuilt\n"), (MOST + 1, "p.urp:2: BadProject\n")):
@@ -47,9 +69,11 @@ def of_tables():
         module = {"a.ur": tables(0, 600), "main.ur": tables(600, count - 600)}
         line = line.replace("main.ur:0", "a.ur:0").replace(":2:", ":4:")
         yield f"{count} tables in two modules", {"p.urp": "# tables\n\na\nmain\n", **module}, line
-    module = tables(0, MOST + 1)
-    yield "the module of too many tables is told", \
-        {"p.urp": "\na\nb\nmain\n", "a.ur": "", "b.ur": module, "main.ur": ""}, "p.urp:3: BadProject\n"
+    for named, project, counts, line in lines_of_tables():
+        files = {f"{name}.ur": tables(MOST * at, count) for at, (name, count) in enumerate(counts.items())}
+        yield f"the line of too many tables: {named}", {"p.urp": project, **files}, f"p.urp:{line}: BadProject\n"
+    yield f"{MOST} tables in the second of three modules", \
+        {"p.urp": "\na\nb\nmain\n", "a.ur": "", "b.ur": tables(0, MOST), "main.ur": ""}, "b.ur:0: NotBuilt\n"
     yield "sequences aren't counted", project_of(module="".join(f"sequence s{i}\n" for i in range(MOST + 1))), \
         "main.ur:0: NotBuilt\n"
 
@@ -86,6 +110,8 @@ def runs():
     """Each case: its name, the program's words, its input, the files of `p`, and what it has to write."""
     for named, files, line in (*of_tables(), *of_modules(), *of_bytes()):
         yield named, ["check", "p"], "", files, line
+    files = {"p.urp": "\na\nmain\n", "a.ur": tables(0, MOST), "main.ur": tables(0, 1)}
+    yield "the program of too many tables", ["explicit", "p"], "", files, "p.urp:3: BadProject\n"
     for count, line in ((MOST, "Main.ur:0: NotBuilt\n"), (MOST + 1, "Main.ur:0: BadProject\n")):
         yield f"{count} tables in a module alone", ["page"], tables(0, count), {}, line
     program = "".join(f"module M{i}\nval x : int = " + (f"@@ plus [ int ] num_int M{i - 1} . x 1\n" if i else "0\n")
@@ -101,7 +127,7 @@ def fault_of(program, words, given, files, wanted):
             with open(f"{room}/p/{name}", "wb") as it:
                 it.write(text.encode())
         ran = subprocess.run([program, *words], input=given.encode(), capture_output=True, timeout=60, cwd=room)
-    status = 0 if words[0] == "explicit" or wanted == ACCEPTED else 1
+    status = 0 if wanted == ACCEPTED or wanted.startswith("module ") else 1
     if ran.returncode != status or ran.stdout != wanted.encode():
         return f"status {ran.returncode}, wrote {ran.stdout[:200]!r} in place of {wanted[:200]!r}"
     return None if bool(ran.stderr) == bool(status) else f"told {ran.stderr[:200]!r}"

@@ -172,7 +172,7 @@ def main(folder, *names):
     for name in names:
         for at, _, files in os.walk(f"{TOP}/crates/{name}/src"):
             sources += "".join(open(f"{at}/{it}", encoding="utf-8").read() for it in files)
-    words, used = set(re.findall(r"[a-z_][a-z0-9_]*", sources)), {it for name in names for it in crates[name][1]}
+    words = set(re.findall(r"[a-z_][a-z0-9_]*", sources))
     for name in needed:
         to = f"{folder}/crates/{name}"
         for part in ("src", "specs", *["proofs"] * (name in names)):
@@ -183,8 +183,7 @@ def main(folder, *names):
             for file in files:
                 with open(f"{at}/{file}", encoding="utf-8") as source:
                     text = source.read()
-                mine = words if name in used else set()
-                text = with_fewer_uses(without_bodies(with_derived_drops(text), mine), name, crates, mine)
+                text = with_fewer_uses(without_bodies(with_derived_drops(text), words), name, crates, words)
                 with open(f"{at}/{file}", "w", encoding="utf-8") as made:
                     made.write(text)
     for part, file, text in (("src", "lib.rt", STUB), ("c", "stub.c", "void never(void) {}\n")):

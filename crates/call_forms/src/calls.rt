@@ -57,18 +57,24 @@ pub enum CallAfter<'a> {
     Settled(Box<Settling<'a>>),
 }
 
-/// Goes on with what a part gave.
+/// Goes on with what a part gave. Where it is refused, so is the whole.
 pub fn go_on<'a>(
     alloc: Global,
     after: CallAfter<'a>,
-    outcome: Outcome<'a>,
+    given: Result<Outcome<'a>, ElabFault>,
     room: u32,
 ) -> Result<Progress<'a, CallAfter<'a>>, ElabFault> {
+    let outcome = given?;
     match after {
         CallAfter::Head(rest) => with_head(alloc, rest, outcome, room),
         CallAfter::Told(telling) => told(alloc, telling, outcome, room),
         CallAfter::Settled(settling) => settled_argument(alloc, settling, outcome, room),
     }
+}
+
+/// What never ends counts as want of memory. What it holds is let go here, where that is proved, and not by its caller.
+pub fn endless(_progress: Progress<'_, CallAfter<'_>>) -> ElabFault {
+    ElabFault::Memory
 }
 
 /// A name alone: a call without arguments.

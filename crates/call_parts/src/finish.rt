@@ -4,8 +4,8 @@ use con_terms::{Con, Place, copy_con};
 use core_terms::{ConOrigin, Exp, Form, Item, Items, Sigil};
 use name_scopes::ElabFault;
 use open_terms::{
-    Argument, Call, Core, Env, Outcome, Slot, Step, Typed, Want, done, implied_term, kept, later,
-    may_grow, node, on_heap, open_call,
+    Argument, Call, Core, Env, Outcome, Slot, Step, Typed, Want, done, implied_term,
+    inner_gaps_first, kept, later, may_grow, node, on_heap, open_call,
 };
 use std::alloc::{AllocError, Global};
 use unknowns::{Found, told};
@@ -125,7 +125,7 @@ fn complete<'a>(alloc: Global, call: Box<Call<'a>>) -> Result<Outcome<'a>, ElabF
         found,
         rest: _,
     } = Box::into_inner(call);
-    let items = items(alloc, &env, &found, place, steps)?;
+    let items = inner_gaps_first(alloc, items(alloc, &env, &found, place, steps)?)?;
     let exp = applied(alloc, place, head, sigil, items)?;
     Ok(done(alloc, exp, con)?)
 }

@@ -39,17 +39,23 @@ pub enum ChainAfter<'a> {
     Right(Box<RightRest<'a>>),
 }
 
-/// Goes on with what a part gave.
+/// Goes on with what a part gave. Where it is refused, so is the whole.
 pub fn go_on<'a>(
     alloc: Global,
     after: ChainAfter<'a>,
-    outcome: Outcome<'a>,
+    given: Result<Outcome<'a>, ElabFault>,
     room: u32,
 ) -> Result<Progress<'a, ChainAfter<'a>>, ElabFault> {
+    let outcome = given?;
     match after {
         ChainAfter::Link(chaining) => linked(alloc, chaining, outcome, room),
         ChainAfter::Right(rest) => with_right(alloc, rest, outcome, room),
     }
+}
+
+/// What never ends counts as want of memory. What it holds is let go here, where that is proved, and not by its caller.
+pub fn endless(_progress: Progress<'_, ChainAfter<'_>>) -> ElabFault {
+    ElabFault::Memory
 }
 
 /// The number of levels that are left at a link: behind each further one there is one level less around what stands

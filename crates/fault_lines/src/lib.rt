@@ -1,8 +1,7 @@
 //! What the line of a refused program says behind its place: the name of the fault, and what it keeps.
 //!
-//! Proved here: each call is safe and ends, and what is told of a fault has the fault's place and begins with its
-//! name; a name that is not bound is told whole. What the fault keeps is printed by `explicit_text`, of which no
-//! clause speaks.
+//! Proved here: each call is safe and ends, and what is told of a fault is its place, its name, and behind that what it
+//! keeps, as `specs/Lines.antt` says: kinds and types as `shown_types` prints them, shapes, and names.
 #![tactic(auto)]
 
 pub mod names;

@@ -1,5 +1,6 @@
--- The fields of literals, one after another (for `past_fields`, `have_fields`, `is_row_of`).
-use Rattle.std.proofs.Common.{◌≡◌, ℕ, ◌+◌, ◌<◌, ◌≤◌, Bool, true, false, ◌&&◌, List, ◌∷◌, length, map, drop, get_or, Some, option_and_then, option_map, refl, ap, sym, ◌∙◌}
+-- The fields of literals, one after another (for `past_fields`, `have_fields`, `is_row_of`), and pieces of which one is
+-- no literal (for `is_one_open`, `is_open`).
+use Rattle.std.proofs.Common.{◌≡◌, ℕ, ◌+◌, ◌<◌, ◌≤◌, Bool, true, false, ◌&&◌, List, ◌∷◌, length, map, drop, get_or, Option, Some, None, option_and_then, option_map, refl, ap, sym, ◌∙◌}
 use Rattle.con_terms.specs.Trees.{Cn, row, Prs, no_pairs, pair, con_list}
 use Rattle.con_terms.specs.View.{con_tree, cons_tree, pair_tree, pairs_from, pairs_tree}
 use Rattle.con_terms.specs.declared.con.Con.{Con}
@@ -12,7 +13,7 @@ use Rattle.guided_terms.specs.Forms.{fields_before, literal_fields, pieces_of}
 use Rattle.row_normal.specs.SameTree.{cn_eq}
 use Rattle.row_normal.proofs.SameTrees.{cn_eq_same}
 use Rattle.std.proofs.lemmas.List.{drop_all}
-use Rattle.inserted_terms.specs.Folders.{IsLiteral, beside, fields_of}
+use Rattle.inserted_terms.specs.Folders.{IsLiteral, beside, fields_of, is_row}
 use Rattle.inserted_terms.specs.View.{fields_left}
 use Rattle.inserted_terms.proofs.Modules.{from_place}
 
@@ -99,3 +100,43 @@ pieces_end ps fs whole i next h g before =
 pub row_fields : (r : Cn) (ps : List Cn) (fs : Prs) → pieces_of r ≡ Some ps → literal_fields ps ≡ Some fs
     → fields_of r ≡ Some fs
 row_fields r ps fs e f = ap (option_and_then literal_fields) e ∙ f
+
+-- pieces of which one is no literal
+
+none_before : (qs : Prs) (o : Option Prs) → o ≡ None → fields_before qs o ≡ None
+none_before qs None e = refl
+none_before qs (Some rs) e = absurd cc
+
+behind_literal : (c : Cn) (more : List Cn) → is_row c ≡ true → literal_fields more ≡ None → literal_fields (c ∷ more) ≡ None
+behind_literal (row k qs) more is e = none_before qs (literal_fields more) e
+behind_literal _ more is e = absurd cc
+
+no_literal : (c : Cn) (more : List Cn) → is_row c ≡ false → literal_fields (c ∷ more) ≡ None
+no_literal (row k qs) more is = absurd cc
+no_literal _ more is = refl
+
+pub open_begin : (ps : Cons) → literal_fields (map con_tree (drop 0 (out-Cons ps).items.items)) ≡ None
+    → literal_fields (con_list (cons_tree ps)) ≡ None
+open_begin ps e = ap literal_fields (cons_listed ps) ∙ e
+
+pub open_more : (ps : Cons) (whole : Type 0) (i : ℕ) (c : Con)
+    → i < length (out-Cons ps).items.items → c ≡ get_or (out-Cons ps).items.items i c → is_row (con_tree c) ≡ true
+    → (literal_fields (map con_tree (drop i (out-Cons ps).items.items)) ≡ None → whole)
+    → literal_fields (map con_tree (drop (i + 1) (out-Cons ps).items.items)) ≡ None → whole
+open_more ps whole i c l e is before g =
+    before (ap (λ xs. literal_fields (map con_tree xs)) (from_place (out-Cons ps).items.items i c l e)
+    ∙ behind_literal (con_tree c) (map con_tree (drop (i + 1) (out-Cons ps).items.items)) is g)
+
+pub open_here : (ps : Cons) (whole : Type 0) (i : ℕ) (c : Con)
+    → i < length (out-Cons ps).items.items → c ≡ get_or (out-Cons ps).items.items i c → is_row (con_tree c) ≡ false
+    → (literal_fields (map con_tree (drop i (out-Cons ps).items.items)) ≡ None → whole)
+    → whole
+open_here ps whole i c l e is before =
+    before (ap (λ xs. literal_fields (map con_tree xs)) (from_place (out-Cons ps).items.items i c l e)
+    ∙ no_literal (con_tree c) (map con_tree (drop (i + 1) (out-Cons ps).items.items)) is)
+
+pub open_row : (r : Cn) (ps : List Cn) → pieces_of r ≡ Some ps → literal_fields ps ≡ None → fields_of r ≡ None
+open_row r ps e f = ap (option_and_then literal_fields) e ∙ f
+
+pub large_row : (r : Cn) → pieces_of r ≡ None → fields_of r ≡ None
+large_row r e = ap (option_and_then literal_fields) e

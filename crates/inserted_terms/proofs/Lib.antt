@@ -18,3 +18,5 @@ pub mod Searches
 pub mod Inserting
 -- The tables of a program (for `inserts_chosen`).
 pub mod Tables
+-- Each value that an accepted program names is declared (law `accepted_programs_have_no_gaps`).
+pub mod Gapless

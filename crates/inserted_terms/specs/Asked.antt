@@ -1,7 +1,8 @@
 -- What is asked of the folders and instances among what a call is applied to: each is the one that is inserted for its
--- parameter's type. The types of the parameters come from walking the head's type, item by item.
+-- parameter's type, or a gap where the rules choose none. The types of the parameters come from walking the head's type,
+-- item by item.
 -- The Ur/Web Manual, "Type Inference", "Folders" and "Type Classes".
-use Rattle.std.specs.Prelude.{Bool, true, false, Option, Some, None, option_and_then}
+use Rattle.std.specs.Prelude.{Bool, true, false, Option, Some, None, option_and_then, ◌⊎◌}
 use Rattle.con_terms.specs.Trees.{Cn, arrow, poly, guarded}
 use Rattle.con_terms.specs.Substitution.{subst}
 use Rattle.core_terms.specs.Strip.{was_added}
@@ -9,6 +10,7 @@ use Rattle.core_terms.specs.Trees.{Ex, Its, no_items, with_term, with_con, with_
 use Rattle.guided_terms.specs.Forms.{head_of}
 use Rattle.guided_terms.specs.Heres.{Here}
 use Rattle.guided_terms.specs.Implied.{Inserts}
+use Rattle.inserted_terms.specs.Lacking.{Lacks}
 
 -- a type as far as its form is known: as it is where it takes something, which is then looked at by itself
 abbrev pub form_of : Cn → Option Cn
@@ -47,10 +49,10 @@ taken _ = None
 abbrev pub parameter : Option Cn → Option Cn
 parameter t = taken (option_and_then form_of t)
 
--- a term is the one that is inserted for a parameter's type, where that is known
+-- a term is the one that is inserted for a parameter's type, where that is known, or a gap where there is none
 abbrev pub InsertsFor : Here → Option Cn → Ex → Type 0
 InsertsFor h None e = ⊥
-InsertsFor h (Some t) e = Inserts h t e
+InsertsFor h (Some t) e = Inserts h t e ⊎ Lacks h t e
 
 -- this holds of a term that was inserted
 abbrev pub IfAdded : Bool → Type 0 → Type 0

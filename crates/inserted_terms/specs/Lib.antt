@@ -2,6 +2,8 @@
 pub mod Inside
 -- The type of what a call begins with.
 pub mod Heads
+-- What stands where the rules choose nothing.
+pub mod Lacking
 -- What is asked of what a call inserts.
 pub mod Asked
 -- What is asked of a whole term.
@@ -16,6 +18,8 @@ pub mod Forms
 pub mod Searches
 -- The fields of a row.
 pub mod Folders
+-- Terms in which nothing is lacking.
+pub mod Gapless
 -- Values with their types, as the program keeps them.
 pub mod Values
 -- The plain data that values are.

@@ -1,14 +1,15 @@
-//! Folders: the fields of a row in the written order.
-ghost use Rattle.std.specs.Prelude.{◌≡◌, ◌&&◌, true, Some, map, IfOk, IfSome, IsTrue};
+//! Folders: the fields of a row in the written order; and rows whose fields aren't known.
+ghost use Rattle.std.specs.Prelude.{◌≡◌, ◌&&◌, true, None, Some, map, IfOk, IfSome, IsTrue};
 ghost use Rattle.std.specs.List.{Contains};
 ghost use Rattle.con_terms.specs.Trees.{app, con_list};
 ghost use Rattle.con_terms.specs.View.{con_tree, cons_tree, kind_tree, pair_tree, pairs_tree};
 ghost use Rattle.con_terms.specs.declared.place.Place.{Place};
-ghost use Rattle.core_terms.specs.Trees.{folder, node};
+ghost use Rattle.core_terms.specs.Trees.{folder, node, top};
 ghost use Rattle.core_terms.specs.View.{folder_view};
 ghost use Rattle.guided_terms.specs.Forms as forms;
 ghost use Rattle.guided_terms.specs.Implied as implied;
 ghost use Rattle.inserted_terms.specs.Folders as rows;
+ghost use Rattle.inserted_terms.specs.Lacking.{Lacks, no_folder_here};
 ghost use Rattle.inserted_terms.specs.View.{at_view, fields_left};
 ghost use Rattle.row_normal.specs.SameTree.{cn_eq};
 
@@ -156,5 +157,86 @@ pub fn is_folder_of(
     match head_of(alloc, t)? {
         None => Ok(false),
         Some(head) => is_folder_at(alloc, h, &head, kind, fields),
+    }
+}
+
+/// Whether a piece is a literal.
+fn is_literal(piece: &Con) -> bool
+    ensures { result ≡ rows.is_row (con_tree piece.now) }
+{
+    matches!(piece, Con::Row(_, _))
+}
+
+/// Whether some piece is no literal.
+#[tactic(auto, using(crate::proofs::Fields::open_begin, crate::proofs::Fields::open_more, crate::proofs::Fields::open_here))]
+fn is_one_open(pieces: &Cons) -> bool
+    ensures { IsTrue result → forms.literal_fields (con_list (cons_tree pieces.now)) ≡ None }
+{
+    for i in 0..pieces.items.len() {
+        if !is_literal(&pieces.items[i]) {
+            return true;
+        }
+    }
+    false
+}
+
+/// Whether a row isn't put together of literals alone, or is too large to be known.
+#[tactic(auto, using(crate::proofs::Fields::open_row, crate::proofs::Fields::large_row))]
+fn is_open(alloc: Global, row: &Con) -> Result<bool, AllocError>
+    ensures { IfOk result (λ b. IsTrue b → rows.fields_of (con_tree row.now) ≡ None) }
+{
+    match steps_of(alloc, row)? {
+        None => Ok(true),
+        Some(row) => Ok(is_one_open(&pieces(alloc, row)?)),
+    }
+}
+
+/// The kind for whose rows this symbol is that of the type of folders.
+fn kind_of_folders(program: &Program, s: Sym) -> Option<&Kind>
+    ensures { IfSome result
+        (λ k. Contains (map folder_view program.now.folders.items.items) (kind_tree k.now, s.number)) }
+{
+    let folders = program.folders.items.as_slice();
+    for i in 0..folders.len() {
+        if folders[i].symbol.number == s.number {
+            return Some(&folders[i].kind);
+        }
+    }
+    None
+}
+
+/// Whether these are the parts of a type of folders of a row that isn't known.
+fn are_open_parts(alloc: Global, h: &At<'_>, f: &Con, row: &Con) -> Result<bool, AllocError>
+    ensures { IfOk result
+        (λ b. IsTrue b → rows.IsOpenFolder (at_view h.now) (app (con_tree f.now) (con_tree row.now))) }
+{
+    match f {
+        Con::Basic(s) => match kind_of_folders(h.program, *s) {
+            None => Ok(false),
+            Some(_) => is_open(alloc, row),
+        },
+        _ => Ok(false),
+    }
+}
+
+/// Whether a type is that of folders of a row that isn't known.
+fn is_open_at(alloc: Global, h: &At<'_>, c: &Con) -> Result<bool, AllocError>
+    ensures { IfOk result (λ b. IsTrue b → rows.IsOpenFolder (at_view h.now) (con_tree c.now)) }
+{
+    match c {
+        Con::App(f, row) => are_open_parts(alloc, h, f, row),
+        _ => Ok(false),
+    }
+}
+
+/// Whether a type is that of folders of a row that isn't known, so that this gap stands for it.
+pub(crate) fn lacks_folder(alloc: Global, h: &At<'_>, t: &Con, gap: u32) -> Result<bool, AllocError>
+    requires { gap ≡ no_folder_here }
+    ensures { IfOk result
+        (λ b. IsTrue b → (p : Place) → Lacks (at_view h.now) (con_tree t.now) (node p true (top gap))) }
+{
+    match head_of(alloc, t)? {
+        None => Ok(false),
+        Some(head) => is_open_at(alloc, h, &head),
     }
 }

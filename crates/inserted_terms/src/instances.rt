@@ -1,16 +1,17 @@
 //! The last value that is declared for a class at a type: of variables the innermost, then of top-level values the
 //! latest, then those that every program has.
-ghost use Rattle.std.specs.Prelude.{◌≡◌, ◌&&◌, true, map, slice_get, IfOk, IsTrue};
+ghost use Rattle.std.specs.Prelude.{◌≡◌, ◌&&◌, true, map, slice_get, IfOk, IsTrue, None, option_and_then};
 ghost use Rattle.con_terms.specs.Substitution.{shift as shifted};
 ghost use Rattle.con_terms.specs.View.{con_tree};
 ghost use Rattle.con_terms.specs.declared.place.Place.{Place};
 ghost use Rattle.core_terms.specs.Basis.{basis_type as basis_type_of};
-ghost use Rattle.core_terms.specs.Trees.{node};
+ghost use Rattle.core_terms.specs.Trees.{node, top};
 ghost use Rattle.core_terms.specs.View.{form_tree, maybe_con};
 ghost use Rattle.core_typing.specs.Scopes.{normal_of as normal_in};
 ghost use Rattle.guided_terms.specs.Forms as forms;
 ghost use Rattle.guided_terms.specs.Implied as implied;
 ghost use Rattle.inserted_terms.specs.Forms.{if_has_form, is_instance_form as is_instance, is_maybe_instance};
+ghost use Rattle.inserted_terms.specs.Lacking.{Lacks, no_instance_here};
 ghost use Rattle.inserted_terms.specs.Searches as searches;
 ghost use Rattle.inserted_terms.specs.Values.{name_of, type_of_value};
 ghost use Rattle.inserted_terms.specs.View.{at_view, leaf_form, maybe_leaf};
@@ -313,4 +314,38 @@ pub fn is_instance_of(alloc: Global, h: &At<'_>, t: &Con, f: &Form) -> Result<bo
         None => Ok(false),
         Some(l) => Ok(is_leaf(l, f)),
     }
+}
+
+/// Whether no value in scope has this type, which is a class at a type: the search for one finds none, or the type is
+/// too large to have a normal form.
+#[tactic(auto, using(crate::proofs::Inserting::none_without, crate::proofs::Inserting::none_found))]
+fn none_has(alloc: Global, h: &At<'_>, t: &Con) -> Result<bool, AllocError>
+    ensures { IfOk result (λ b. IsTrue b
+        → option_and_then (searches.first_value (at_view h.now)) (normal_in (con_tree t.now)) ≡ None) }
+{
+    let n = match normal_of(alloc, t)? {
+        None => return Ok(true),
+        Some(n) => n,
+    };
+    if !is_instance_form(&n) {
+        return Ok(false);
+    }
+    Ok(first_instance(alloc, h, &n)?.is_none())
+}
+
+/// Whether a type is a class at a type for which no instance is in scope, so that this gap stands for it.
+pub(crate) fn lacks_instance(
+    alloc: Global,
+    h: &At<'_>,
+    t: &Con,
+    gap: u32,
+) -> Result<bool, AllocError>
+    requires { gap ≡ no_instance_here }
+    ensures { IfOk result
+        (λ b. IsTrue b → (p : Place) → Lacks (at_view h.now) (con_tree t.now) (node p true (top gap))) }
+{
+    if !is_class_type(alloc, t)? {
+        return Ok(false);
+    }
+    none_has(alloc, h, t)
 }

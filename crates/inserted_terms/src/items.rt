@@ -1,11 +1,13 @@
 //! What a call is applied to, along its head's type.
-ghost use Rattle.std.specs.Prelude.{◌≡◌, true, map, IfOk, IsTrue, Option, option_and_then, option_map, slice_get};
+ghost use Rattle.std.specs.Prelude.{◌≡◌, true, map, IfOk, IsTrue, Option, Some, option_and_then, option_map, slice_get};
 ghost use Rattle.con_terms.specs.Trees.{Cn};
 ghost use Rattle.con_terms.specs.View.{con_tree, kind_tree};
+ghost use Rattle.con_terms.specs.declared.place.Place.{Place};
 ghost use Rattle.core_terms.specs.Basis.{fold_type as fold_type_of};
 ghost use Rattle.core_terms.specs.Datatypes.{datatype_of};
 ghost use Rattle.core_terms.specs.Lists.{item_tree};
 ghost use Rattle.core_terms.specs.Strip.{was_added};
+ghost use Rattle.core_terms.specs.Trees.{node, top};
 ghost use Rattle.core_terms.specs.View.{datatype_view, decls_view, exp_tree, folder_view, form_tree, items_tree, maybe_con};
 ghost use Rattle.core_typing.specs.Declarations.{datatypes};
 ghost use Rattle.core_typing.specs.Scopes.{folder_of};
@@ -13,14 +15,16 @@ ghost use Rattle.guided_terms.specs.Heres as heres;
 ghost use Rattle.guided_terms.specs.Implied.{Inserts};
 ghost use Rattle.inserted_terms.specs.Asked as asked;
 ghost use Rattle.inserted_terms.specs.Heads as heads;
+ghost use Rattle.inserted_terms.specs.Lacking.{Lacks};
 ghost use Rattle.inserted_terms.specs.Parts as parts;
 ghost use Rattle.inserted_terms.specs.Values.{type_of_value};
 ghost use Rattle.inserted_terms.specs.View.{at_view};
 ghost use Rattle.judgements.specs.View.{locals_view, maybe_symbol};
 
 use crate::at::At;
-use crate::folders::is_folder_of;
-use crate::instances::is_instance_of;
+use crate::folders::{is_folder_of, lacks_folder};
+use crate::gaps::{NO_FOLDER, NO_INSTANCE};
+use crate::instances::{is_instance_of, lacks_instance};
 use crate::types::{Split, past_con, past_guard, taken_apart};
 use con_terms::{Con, Kind, Sym, copy_con, same_kind};
 use core_terms::{Datatype, Decl, Exp, Form, Item, Items, Program};
@@ -120,8 +124,8 @@ fn type_of_form(alloc: Global, h: &At<'_>, f: &Form) -> Result<Option<Con>, Allo
     }
 }
 
-/// Whether a term is the one that is inserted for a parameter of this type.
-fn is_inserted_for(alloc: Global, h: &At<'_>, t: &Con, e: &Exp) -> Result<bool, AllocError>
+/// Whether a term is the one that the rules insert for a parameter of this type.
+fn is_chosen_for(alloc: Global, h: &At<'_>, t: &Con, e: &Exp) -> Result<bool, AllocError>
     ensures { IfOk result (λ b. IsTrue b → was_added (exp_tree e.now) ≡ true
         → Inserts (at_view h.now) (con_tree t.now) (exp_tree e.now)) }
 {
@@ -129,6 +133,42 @@ fn is_inserted_for(alloc: Global, h: &At<'_>, t: &Con, e: &Exp) -> Result<bool, 
         Form::Folder(k, fields) => is_folder_of(alloc, h, t, k, fields),
         f => is_instance_of(alloc, h, t, f),
     }
+}
+
+/// Whether the value of a number is a gap that stands for a parameter of this type.
+fn is_gap_for(alloc: Global, h: &At<'_>, t: &Con, i: u32) -> Result<bool, AllocError>
+    ensures { IfOk result
+        (λ b. IsTrue b → (p : Place) → Lacks (at_view h.now) (con_tree t.now) (node p true (top i))) }
+{
+    if i == NO_INSTANCE {
+        return lacks_instance(alloc, h, t, i);
+    }
+    if i == NO_FOLDER {
+        return lacks_folder(alloc, h, t, i);
+    }
+    Ok(false)
+}
+
+/// Whether a term is a gap that stands for a parameter of this type, for which the rules choose nothing.
+fn is_lacking_for(alloc: Global, h: &At<'_>, t: &Con, e: &Exp) -> Result<bool, AllocError>
+    ensures { IfOk result (λ b. IsTrue b → was_added (exp_tree e.now) ≡ true
+        → Lacks (at_view h.now) (con_tree t.now) (exp_tree e.now)) }
+{
+    match &e.form {
+        Form::Top(i) => is_gap_for(alloc, h, t, *i),
+        _ => Ok(false),
+    }
+}
+
+/// Whether a term is the one that is inserted for a parameter of this type, or a gap where the rules choose none.
+fn is_inserted_for(alloc: Global, h: &At<'_>, t: &Con, e: &Exp) -> Result<bool, AllocError>
+    ensures { IfOk result (λ b. IsTrue b → was_added (exp_tree e.now) ≡ true
+        → asked.InsertsFor (at_view h.now) (Some (con_tree t.now)) (exp_tree e.now)) }
+{
+    if is_lacking_for(alloc, h, t, e)? {
+        return Ok(true);
+    }
+    is_chosen_for(alloc, h, t, e)
 }
 
 /// Whether a term, if it was inserted, is the one for a parameter of this type.

@@ -1,5 +1,6 @@
 //! Whether the folders and instances that a program's calls insert are those that their rules choose: of a folder the
-//! fields of its row in the written order, of an instance the last value that is declared for its class and type.
+//! fields of its row in the written order, of an instance the last value that is declared for its class and type; and
+//! that a gap stands only where the rules choose none.
 //!
 //! The definitions stand in `specs/`; each file is one subject.
 #![tactic(auto)]
@@ -8,8 +9,10 @@ pub mod at;
 mod basis;
 pub mod bound;
 mod folders;
+pub mod gaps;
 pub mod instances;
 mod items;
+pub mod laws;
 pub mod programs;
 mod scopes;
 mod terms;

@@ -8,108 +8,172 @@ use table_rows::{
 /// What each trial may meet.
 type Tested<T> = Result<T, AllocError>;
 
-/// A shape at one argument.
-fn at(alloc: Global, place: u32, argument: Shape) -> Tested<Shape> {
-    let mut items = Vec::new(alloc);
-    items.push(argument)?;
-    Ok(Shape::Data(place, Arguments { items }))
+/// A shape as it is written down beforehand.
+#[derive(Clone, Copy)]
+enum Sketch {
+    Int,
+    Words,
+    Unit,
+    Truth,
+    /// A record of the fields `1` and `2`.
+    Pair(&'static Sketch, &'static Sketch),
+    /// The datatype with this number at one argument.
+    Data(u32, &'static Sketch),
+    /// What a datatype is taken at.
+    Parameter,
 }
 
-/// A record of fields named 1, 2, ..
-fn record(alloc: Global, shapes: Vec<Shape>) -> Tested<Shape> {
+/// A constructor by its name and what it holds.
+type Made = (&'static str, Option<&'static Sketch>);
+
+/// Lists, and a datatype that doubles its argument: `datatype list a = Nil | Cons of a * list a` and
+/// `datatype grows a = Whole of a | Twice of grows (a * a)`.
+const DATATYPES: [[Made; 2]; 2] = [
+    [
+        ("Nil", None),
+        (
+            "Cons",
+            Some(&Sketch::Pair(&Sketch::Parameter, &Sketch::Data(0, &Sketch::Parameter))),
+        ),
+    ],
+    [
+        ("Whole", Some(&Sketch::Parameter)),
+        (
+            "Twice",
+            Some(&Sketch::Data(1, &Sketch::Pair(&Sketch::Parameter, &Sketch::Parameter))),
+        ),
+    ],
+];
+
+/// Entries of the module Main, each with the shape of its argument, and whether it has a form without fields.
+const ENTRIES: [(&str, Sketch, bool); 9] = [
+    ("echo", Sketch::Words, false),
+    ("number", Sketch::Int, false),
+    ("add", Sketch::Int, true),
+    ("truth", Sketch::Truth, false),
+    ("nothing", Sketch::Unit, false),
+    ("list", Sketch::Data(0, &Sketch::Int), false),
+    ("pair", Sketch::Pair(&Sketch::Truth, &Sketch::Words), false),
+    ("grows", Sketch::Data(1, &Sketch::Int), false),
+    ("units", Sketch::Data(1, &Sketch::Unit), false),
+];
+
+/// One argument.
+fn argument(alloc: Global, shape: Tested<Shape>) -> Tested<Arguments> {
     let mut items = Vec::new(alloc);
-    for shape in shapes {
-        let name = Text::of(alloc, if items.is_empty() { "1" } else { "2" })?;
-        items.push(Part { name, shape })?;
-    }
+    items.push(shape?)?;
+    Ok(Arguments { items })
+}
+
+/// A field.
+fn part(alloc: Global, name: &str, shape: Tested<Shape>) -> Tested<Part> {
+    let name = Text::of(alloc, name)?;
+    Ok(Part {
+        name,
+        shape: shape?,
+    })
+}
+
+/// A record of two fields.
+fn pair(alloc: Global, first: Tested<Part>, second: Tested<Part>) -> Tested<Shape> {
+    let mut items = Vec::new(alloc);
+    items.push(first?)?;
+    items.push(second?)?;
     Ok(Shape::Rec(Parts { items }))
 }
 
-/// A pair of a shape with itself.
-fn twice(alloc: Global, first: Shape, second: Shape) -> Tested<Shape> {
-    let mut shapes = Vec::new(alloc);
-    shapes.push(first)?;
-    shapes.push(second)?;
-    record(alloc, shapes)
+/// The shape that a sketch is of.
+fn shape(alloc: Global, sketch: &Sketch) -> Tested<Shape> {
+    match sketch {
+        Sketch::Int => Ok(Shape::Int),
+        Sketch::Words => Ok(Shape::Words),
+        Sketch::Unit => Ok(Shape::Unit),
+        Sketch::Truth => Ok(Shape::Truth),
+        Sketch::Pair(first, second) => pair(
+            alloc,
+            part(alloc, "1", shape(alloc, first)),
+            part(alloc, "2", shape(alloc, second)),
+        ),
+        Sketch::Data(place, inner) => {
+            Ok(Shape::Data(*place, argument(alloc, shape(alloc, inner))?))
+        }
+        Sketch::Parameter => Ok(Shape::Parameter(0)),
+    }
+}
+
+/// A constructor of a datatype.
+fn case(alloc: Global, made: Made) -> Tested<Case> {
+    let (name, sketch) = made;
+    let name = Text::of(alloc, name)?;
+    let holds = match sketch {
+        Some(sketch) => Some(shape(alloc, sketch)?),
+        None => None,
+    };
+    Ok(Case { name, holds })
 }
 
 /// A datatype of two constructors.
-fn either(
-    alloc: Global,
-    names: [&str; 2],
-    first: Option<Shape>,
-    second: Option<Shape>,
-) -> Tested<Datatype> {
+fn either(alloc: Global, made: [Made; 2]) -> Tested<Datatype> {
     let mut cases = Vec::new(alloc);
-    cases.push(Case {
-        name: Text::of(alloc, names[0])?,
-        holds: first,
-    })?;
-    cases.push(Case {
-        name: Text::of(alloc, names[1])?,
-        holds: second,
-    })?;
+    cases.push(case(alloc, made[0])?)?;
+    cases.push(case(alloc, made[1])?)?;
     Ok(Datatype { cases })
 }
 
 /// An entry of the module Main.
-fn entry(alloc: Global, function: &str, argument: Shape, form: Option<Shape>) -> Tested<Entry> {
+fn entry(alloc: Global, function: &str, sketch: &Sketch, has_form: bool) -> Tested<Entry> {
     let mut name = Texts::new(alloc);
     name.push(Text::of(alloc, "Main")?)?;
     name.push(Text::of(alloc, function)?)?;
-    let mut items = Vec::new(alloc);
-    items.push(argument)?;
     Ok(Entry {
         name,
-        arguments: Arguments { items },
-        form,
+        arguments: argument(alloc, shape(alloc, sketch))?,
+        form: has_form.then_some(Shape::Unit),
     })
 }
 
-/// Lists, and a datatype that doubles its argument: `datatype list a = Nil | Cons of a * list a` and
-/// `datatype grows a = Whole of a | Twice of grows (a * a)`.
+/// The datatypes and the entries.
 fn routes(alloc: Global) -> Tested<Routes> {
     let mut items = Vec::new(alloc);
-    let rest = at(alloc, 0, Shape::Parameter(0))?;
-    let pair = twice(alloc, Shape::Parameter(0), rest)?;
-    items.push(either(alloc, ["Nil", "Cons"], None, Some(pair))?)?;
-    let doubled = twice(alloc, Shape::Parameter(0), Shape::Parameter(0))?;
-    let grown = at(alloc, 1, doubled)?;
-    items.push(either(
-        alloc,
-        ["Whole", "Twice"],
-        Some(Shape::Parameter(0)),
-        Some(grown),
-    )?)?;
+    for made in DATATYPES {
+        items.push(either(alloc, made)?)?;
+    }
     let mut entries = Vec::new(alloc);
-    entries.push(entry(alloc, "echo", Shape::Words, None)?)?;
-    entries.push(entry(alloc, "number", Shape::Int, None)?)?;
-    entries.push(entry(alloc, "add", Shape::Int, Some(Shape::Unit))?)?;
-    entries.push(entry(alloc, "truth", Shape::Truth, None)?)?;
-    entries.push(entry(alloc, "nothing", Shape::Unit, None)?)?;
-    entries.push(entry(alloc, "list", at(alloc, 0, Shape::Int)?, None)?)?;
-    entries.push(entry(
-        alloc,
-        "pair",
-        twice(alloc, Shape::Truth, Shape::Words)?,
-        None,
-    )?)?;
-    entries.push(entry(alloc, "grows", at(alloc, 1, Shape::Int)?, None)?)?;
-    entries.push(entry(alloc, "units", at(alloc, 1, Shape::Unit)?, None)?)?;
+    for (function, sketch, has_form) in ENTRIES {
+        entries.push(entry(alloc, function, &sketch, has_form)?)?;
+    }
     Ok(Routes {
         datatypes: Datatypes { items },
         entries,
     })
 }
 
-/// The link of the call that a path is, or why it is none.
-fn told(alloc: Global, routes: &Routes, post: bool, path: &str) -> Tested<String> {
-    match read_link(alloc, routes, post, &Text::of(alloc, path)?) {
-        Ok(call) => link_text(alloc, routes, call.entry, &call.wires)?
-            .as_str()
-            .to_string(alloc),
+/// The letters of a link.
+fn letters(alloc: Global, link: Tested<Text>) -> Tested<String> {
+    link?.as_str().to_string(alloc)
+}
+
+/// The link of the call that a path is, with these arguments where there are any, or why it is none.
+fn link_of(
+    alloc: Global,
+    routes: &Routes,
+    post: bool,
+    path: &Text,
+    wires: Option<&Wires>,
+) -> Tested<String> {
+    match read_link(alloc, routes, post, path) {
+        Ok(call) => letters(
+            alloc,
+            link_text(alloc, routes, call.entry, wires.unwrap_or(&call.wires)),
+        ),
         Err(fault) => fault.to_string(alloc),
     }
+}
+
+/// The link of the call that a path is, or why it is none.
+fn told(alloc: Global, routes: &Routes, post: bool, path: &str) -> Tested<String> {
+    let path = Text::of(alloc, path)?;
+    link_of(alloc, routes, post, &path, None)
 }
 
 /// Paths that are asked for by GET, each with the link of its call or its refusal.
@@ -165,26 +229,29 @@ const ASKED: [(&str, &str); 37] = [
     ("/Main/nothing/", "TooManyPieces"),
 ];
 
-/// Each path's answer by GET, and two by POST.
-pub fn paths_are_read(alloc: Global) -> Tested<bool> {
-    let routes = routes(alloc)?;
+/// Whether a path has this answer.
+fn answers(alloc: Global, routes: &Routes, post: bool, path: &str, answer: &str) -> Tested<bool> {
+    Ok(told(alloc, routes, post, path)?.as_str() == answer)
+}
+
+/// Whether each path has its answer by GET.
+fn all_answer(alloc: Global, routes: &Routes) -> Tested<bool> {
     for (path, answer) in ASKED {
-        if told(alloc, &routes, false, path)?.as_str() != answer {
+        if !answers(alloc, routes, false, path, answer)? {
             return Ok(false);
         }
     }
-    Ok(
-        told(alloc, &routes, true, "/Main/add/1")?.as_str() == "/Main/add/1"
-            && told(alloc, &routes, true, "/Main/echo/_")?.as_str() == "OtherMethod",
-    )
+    Ok(true)
 }
 
-/// The length of the link with these arguments to the entry of a path, where the path has one.
-fn length_at(alloc: Global, routes: &Routes, path: &str, wires: &Wires) -> Tested<Option<usize>> {
-    match read_link(alloc, routes, false, &Text::of(alloc, path)?) {
-        Ok(call) => Ok(Some(link_text(alloc, routes, call.entry, wires)?.len())),
-        Err(_) => Ok(None),
-    }
+/// Each path's answer by GET, and two by POST.
+pub fn paths_are_read(alloc: Global) -> Tested<bool> {
+    let routes = routes(alloc)?;
+    Ok(
+        all_answer(alloc, &routes)?
+            && answers(alloc, &routes, true, "/Main/add/1", "/Main/add/1")?
+            && answers(alloc, &routes, true, "/Main/echo/_", "OtherMethod")?,
+    )
 }
 
 /// A path that repeats a piece.
@@ -208,15 +275,22 @@ fn long_lists_are_read(alloc: Global, routes: &Routes) -> Tested<bool> {
     Ok(true)
 }
 
-/// The length of the link of a value of so many constructors, each in the next.
-fn length_of_deep(alloc: Global, routes: &Routes, depth: u32) -> Tested<Option<usize>> {
-    let mut value = Wire::Unit;
+/// A value of so many constructors, each in the next.
+fn deep(alloc: Global, depth: u32) -> Tested<Wires> {
+    let mut value = Box::new(alloc, Wire::Unit)?;
     for _ in 0..depth {
-        value = Wire::Tagged(Text::of(alloc, "S")?, Some(Box::new(alloc, value)?));
+        value = Box::new(alloc, Wire::Tagged(Text::of(alloc, "S")?, Some(value)))?;
     }
     let mut wires = Wires::new(alloc);
-    wires.push(value)?;
-    length_at(alloc, routes, "/Main/echo/_", &wires)
+    wires.push(Box::into_inner(value))?;
+    Ok(wires)
+}
+
+/// The length of the link of a value of so many constructors, each in the next.
+fn length_of_deep(alloc: Global, routes: &Routes, depth: u32) -> Tested<usize> {
+    let wires = deep(alloc, depth)?;
+    let path = Text::of(alloc, "/Main/echo/_")?;
+    Ok(link_of(alloc, routes, false, &path, Some(&wires))?.len())
 }
 
 /// Long lists, types that grow, and a deep value.
@@ -228,6 +302,6 @@ pub fn values_of_any_depth(alloc: Global) -> Tested<bool> {
         long_lists_are_read(alloc, &routes)?
             && told(alloc, &routes, false, grown.as_str())?.as_str() == "TooFewPieces"
             && told(alloc, &routes, false, units.as_str())?.as_str() == "Memory"
-            && length_of_deep(alloc, &routes, 50000)? == Some(100010),
+            && length_of_deep(alloc, &routes, 50000)? == 100010,
     )
 }

@@ -5,10 +5,9 @@ ghost use Rattle.xml_trees.specs.Trees.{Whole, Within, Nothing, built, built_and
 
 use page_bytes::{PageFault, page_length, write_page};
 use std::alloc::{AllocError, Global};
-use std::str;
 use table_rows::Text;
 use ur_outside::MemSink;
-use xml_trees::{Attr, Attrs, Page, Tag};
+use xml_trees::{Attr, Attrs, Page, Tag, TagName};
 
 /// An element that holds the trees of a page.
 fn element(alloc: Global, tag: Tag, attrs: Attrs, inside: &Page) -> Result<Page, AllocError>
@@ -49,144 +48,165 @@ pub fn empty_body(alloc: Global) -> Result<bool, AllocError> {
     Ok(text.as_slice() == b"<!DOCTYPE html><html><body></body></html>".as_slice() && length == 41)
 }
 
-/// The text of one element with at most one attribute, between those of `html`.
-fn tag_text(
-    alloc: Global,
-    tag: Tag,
-    attr: Option<Attr>,
-    inside: &str,
-) -> Result<Vec<u8>, AllocError> {
-    let mut attrs = Attrs::new(alloc);
-    if let Some(attr) = attr {
-        attrs.push(attr)?;
-    }
-    let (text, length) = shown(alloc, &element(alloc, tag, attrs, &words(alloc, inside)?)?)?;
+/// Whether the text of a page is so, between those of `html`, and its length is told.
+fn is_shown(alloc: Global, page: &Page, want: &str) -> Result<bool, AllocError>
+    requires { IsWhole (built page.now) }
+{
+    let (text, length) = shown(alloc, page)?;
     let inner = text
         .as_slice()
         .strip_prefix(b"<!DOCTYPE html><html>".as_slice())
         .and_then(|rest| rest.strip_suffix(b"</html>".as_slice()));
-    match inner {
-        Some(inner) if length == text.len() as u64 => inner.to_vec(alloc),
-        _ => Err(AllocError),
-    }
+    Ok(length == text.len() as u64 && inner.is_some_and(|inner| inner == want.as_bytes()))
 }
 
-/// An element with at most one attribute and a text in it, and what it is written as.
-#[derive(Drop)]
-struct Case {
-    tag: Tag,
-    attr: Option<Attr>,
-    inside: &'static str,
-    want: &'static str,
+/// An attribute with its value, or none.
+#[derive(Clone, Copy)]
+enum Given {
+    Nothing,
+    Title(&'static str),
+    Link(&'static str),
+    Href(&'static str),
+    Src(&'static str),
+    Alt(&'static str),
+    Border(i64),
+    Value(&'static str),
+    Size(i64),
+    Action(&'static str),
 }
+
+/// At most one attribute.
+fn attribute(alloc: Global, given: Given) -> Result<Option<Attr>, AllocError> {
+    Ok(match given {
+        Given::Nothing => None,
+        Given::Title(text) => Some(Attr::Title(Text::of(alloc, text)?)),
+        Given::Link(text) => Some(Attr::Link(Text::of(alloc, text)?)),
+        Given::Href(text) => Some(Attr::Href(Text::of(alloc, text)?)),
+        Given::Src(text) => Some(Attr::Src(Text::of(alloc, text)?)),
+        Given::Alt(text) => Some(Attr::Alt(Text::of(alloc, text)?)),
+        Given::Border(width) => Some(Attr::Border(width)),
+        Given::Value(text) => Some(Attr::Value(Text::of(alloc, text)?)),
+        Given::Size(width) => Some(Attr::Size(width)),
+        Given::Action(text) => Some(Attr::Action(Text::of(alloc, text)?)),
+    })
+}
+
+/// A list of at most one attribute.
+fn attributes(alloc: Global, given: Given) -> Result<Attrs, AllocError> {
+    let mut attrs = Attrs::new(alloc);
+    if let Some(attr) = attribute(alloc, given)? {
+        attrs.push(attr)?;
+    }
+    Ok(attrs)
+}
+
+/// An element: the tag, the field that an input fills, the attribute, the text in it, and what it is written as.
+type Case = (TagName, &'static str, Given, &'static str, &'static str);
 
 /// Each kind of tag and attribute, with what has to be escaped.
-fn cases(alloc: Global) -> Result<Vec<Case>, AllocError> {
-    let mut all = Vec::new(alloc);
-    all.push(Case {
-        tag: Tag::P,
-        attr: Some(Attr::Title(Text::of(alloc, "<b>&\"")?)),
-        inside: "<b>&\"",
-        want: "<p title=\"&lt;b&gt;&amp;&quot;\">&lt;b&gt;&amp;\"</p>",
-    })?;
-    all.push(Case {
-        tag: Tag::H1,
-        attr: None,
-        inside: "\u{e4}\u{4e16} '&amp;'",
-        want: "<h1>\u{e4}\u{4e16} '&amp;amp;'</h1>",
-    })?;
-    all.push(Case {
-        tag: Tag::Br,
-        attr: None,
-        inside: "lost",
-        want: "<br>",
-    })?;
-    all.push(Case {
-        tag: Tag::Hr,
-        attr: None,
-        inside: "",
-        want: "<hr>",
-    })?;
-    all.push(Case {
-        tag: Tag::Img,
-        attr: Some(Attr::Src(Text::of(alloc, "/a.png?b&c")?)),
-        inside: "",
-        want: "<img src=\"/a.png?b&amp;c\">",
-    })?;
-    all.push(Case {
-        tag: Tag::Img,
-        attr: Some(Attr::Alt(Text::of(alloc, "")?)),
-        inside: "",
-        want: "<img alt=\"\">",
-    })?;
-    all.push(Case {
-        tag: Tag::A,
-        attr: Some(Attr::Link(Text::of(alloc, "/Main/page/1")?)),
-        inside: "go",
-        want: "<a href=\"/Main/page/1\">go</a>",
-    })?;
-    all.push(Case {
-        tag: Tag::A,
-        attr: Some(Attr::Href(Text::of(alloc, "http://a.b/?c=1&d")?)),
-        inside: "",
-        want: "<a href=\"http://a.b/?c=1&amp;d\"></a>",
-    })?;
-    all.push(Case {
-        tag: Tag::Table,
-        attr: Some(Attr::Border(-1)),
-        inside: "",
-        want: "<table border=\"-1\"></table>",
-    })?;
-    all.push(Case {
-        tag: Tag::Textbox(Text::of(alloc, "a")?),
-        attr: Some(Attr::Size(i64::MIN)),
-        inside: "",
-        want: "<input type=\"text\" name=\"a\" size=\"-9223372036854775808\">",
-    })?;
-    all.push(Case {
-        tag: Tag::Form,
-        attr: None,
-        inside: "",
-        want: "<form method=\"post\"></form>",
-    })?;
-    all.push(Case {
-        tag: Tag::Password(Text::of(alloc, "p")?),
-        attr: Some(Attr::Value(Text::of(alloc, "x")?)),
-        inside: "",
-        want: "<input type=\"password\" name=\"p\" value=\"x\">",
-    })?;
-    all.push(Case {
-        tag: Tag::Hidden(Text::of(alloc, "h")?),
-        attr: None,
-        inside: "",
-        want: "<input type=\"hidden\" name=\"h\">",
-    })?;
-    all.push(Case {
-        tag: Tag::Checkbox(Text::of(alloc, "c'")?),
-        attr: None,
-        inside: "",
-        want: "<input type=\"checkbox\" name=\"c'\">",
-    })?;
-    all.push(Case {
-        tag: Tag::Submit,
-        attr: Some(Attr::Action(Text::of(alloc, "/Main/act")?)),
-        inside: "",
-        want: "<input type=\"submit\" formaction=\"/Main/act\">",
-    })?;
-    Ok(all)
+const CASES: [Case; 15] = [
+    (
+        TagName::P,
+        "",
+        Given::Title("<b>&\""),
+        "<b>&\"",
+        "<p title=\"&lt;b&gt;&amp;&quot;\">&lt;b&gt;&amp;\"</p>",
+    ),
+    (
+        TagName::H1,
+        "",
+        Given::Nothing,
+        "\u{e4}\u{4e16} '&amp;'",
+        "<h1>\u{e4}\u{4e16} '&amp;amp;'</h1>",
+    ),
+    (TagName::Br, "", Given::Nothing, "lost", "<br>"),
+    (TagName::Hr, "", Given::Nothing, "", "<hr>"),
+    (
+        TagName::Img,
+        "",
+        Given::Src("/a.png?b&c"),
+        "",
+        "<img src=\"/a.png?b&amp;c\">",
+    ),
+    (TagName::Img, "", Given::Alt(""), "", "<img alt=\"\">"),
+    (
+        TagName::A,
+        "",
+        Given::Link("/Main/page/1"),
+        "go",
+        "<a href=\"/Main/page/1\">go</a>",
+    ),
+    (
+        TagName::A,
+        "",
+        Given::Href("http://a.b/?c=1&d"),
+        "",
+        "<a href=\"http://a.b/?c=1&amp;d\"></a>",
+    ),
+    (
+        TagName::Table,
+        "",
+        Given::Border(-1),
+        "",
+        "<table border=\"-1\"></table>",
+    ),
+    (
+        TagName::Textbox,
+        "a",
+        Given::Size(i64::MIN),
+        "",
+        "<input type=\"text\" name=\"a\" size=\"-9223372036854775808\">",
+    ),
+    (
+        TagName::Form,
+        "",
+        Given::Nothing,
+        "",
+        "<form method=\"post\"></form>",
+    ),
+    (
+        TagName::Password,
+        "p",
+        Given::Value("x"),
+        "",
+        "<input type=\"password\" name=\"p\" value=\"x\">",
+    ),
+    (
+        TagName::Hidden,
+        "h",
+        Given::Nothing,
+        "",
+        "<input type=\"hidden\" name=\"h\">",
+    ),
+    (
+        TagName::Checkbox,
+        "c'",
+        Given::Nothing,
+        "",
+        "<input type=\"checkbox\" name=\"c'\">",
+    ),
+    (
+        TagName::Submit,
+        "",
+        Given::Action("/Main/act"),
+        "",
+        "<input type=\"submit\" formaction=\"/Main/act\">",
+    ),
+];
+
+/// Whether a case has its text.
+fn is_written(alloc: Global, case: &Case) -> Result<bool, AllocError> {
+    let (tag, field, given, inside, want) = *case;
+    let inner = words(alloc, inside)?;
+    let attrs = attributes(alloc, given)?;
+    let page = element(alloc, tag.tag(Text::of(alloc, field)?), attrs, &inner)?;
+    is_shown(alloc, &page, want)
 }
 
 /// Each case's text.
 pub fn elements(alloc: Global) -> Result<bool, AllocError> {
-    for case in cases(alloc)? {
-        let Case {
-            tag,
-            attr,
-            inside,
-            want,
-        } = case;
-        let text = tag_text(alloc, tag, attr, inside)?;
-        if str::from_utf8(text.as_slice()).unwrap_or("no text") != want {
+    for case in &CASES {
+        if !is_written(alloc, case)? {
             return Ok(false);
         }
     }

@@ -24,38 +24,89 @@ pub fn pieces_in_order(alloc: Global) -> Result<bool, AllocError> {
     Ok(names.eq([Name::Em, Name::Em]) && page.is_whole())
 }
 
-/// A page in another, and a copy of a tag.
-pub fn joins(alloc: Global) -> Result<bool, AllocError> {
-    let mut inner = Page::new(alloc);
-    say(alloc, &mut inner, Tag::Textbox(Text::of(alloc, "f")?), "a")?;
+/// A page that has begun a body with two attributes.
+fn body(alloc: Global) -> Result<Page, AllocError> {
     let mut attrs = Attrs::new(alloc);
     attrs.push(Attr::Title(Text::of(alloc, "t")?))?;
     attrs.push(Attr::Border(3))?;
     let mut page = Page::new(alloc);
     page.begin(Tag::Body, attrs)?;
-    let open = !page.is_whole();
+    Ok(page)
+}
+
+/// How many pieces a page has when a whole one is joined to it; one that isn't whole is left out.
+fn joined(alloc: Global, page: &mut Page, inner: &Page) -> Result<usize, AllocError> {
     if inner.is_whole() {
-        page.join(alloc, &inner)?;
+        page.join(alloc, inner)?;
     }
-    let copy = Tag::Hidden(Text::of(alloc, "f")?).copy(alloc)?;
-    Ok(open && page.pieces().len() == 4 && copy.name() == Name::Input && copy.name().is_void())
+    Ok(page.pieces().len())
+}
+
+/// Whether the copy of an input is one.
+fn is_copied(alloc: Global, field: &str) -> Result<bool, AllocError> {
+    let name = Tag::Hidden(Text::of(alloc, field)?).copy(alloc)?.name();
+    Ok(name == Name::Input && name.is_void())
+}
+
+/// A page in another, and a copy of a tag.
+pub fn joins(alloc: Global) -> Result<bool, AllocError> {
+    let mut inner = Page::new(alloc);
+    say(alloc, &mut inner, Tag::Textbox(Text::of(alloc, "f")?), "a")?;
+    let mut page = body(alloc)?;
+    let is_open = !page.is_whole();
+    Ok(is_open && joined(alloc, &mut page, &inner)? == 4 && is_copied(alloc, "f")?)
+}
+
+/// Names in sources, each with the name of the simple tag that it stands for, if any.
+const SIMPLE: [(&str, &str); 11] = [
+    ("h5", "none"),
+    ("P", "none"),
+    ("", "none"),
+    ("body", "none"),
+    ("head", "none"),
+    ("form", "none"),
+    ("input", "none"),
+    ("a", "none"),
+    ("brr", "none"),
+    ("blockquote", "blockquote"),
+    ("h4", "h4"),
+];
+
+/// The name of a simple tag, if it is one.
+fn simple_name(name: &str) -> &'static str {
+    match Tag::simple(name) {
+        Some(tag) => tag.name().as_str(),
+        None => "none",
+    }
+}
+
+/// Names in sources that are there, and names that are none.
+fn names_in_sources() -> bool {
+    TagName::named("checkbox") == Some(TagName::Checkbox)
+        && TagName::named("input").is_none()
+        && AttrName::named("method").is_none()
+}
+
+/// The name that a textbox for this field is written with.
+fn textbox_name(field: Text) -> &'static str {
+    TagName::Textbox.tag(field).name().as_str()
+}
+
+/// The name of a border of this width.
+fn border_name(width: i64) -> &'static str {
+    match AttrName::Border.with_number(width) {
+        Some(attr) => attr.name().as_str(),
+        None => "none",
+    }
 }
 
 /// Names in sources of tags and attributes, and names that are none.
 pub fn simple_tags(alloc: Global) -> Result<bool, AllocError> {
-    for other in ["h5", "P", "", "body", "head", "form", "input", "a", "brr"] {
-        if Tag::simple(other).is_some() {
+    for (name, simple) in SIMPLE {
+        if simple_name(name) != simple {
             return Ok(false);
         }
     }
-    let simple = Tag::simple("blockquote").is_some_and(|tag| tag.name() == Name::Blockquote)
-        && Tag::simple("h4").is_some_and(|tag| tag.name().as_str() == "h4");
-    let named = TagName::named("checkbox") == Some(TagName::Checkbox)
-        && TagName::named("input").is_none()
-        && AttrName::named("method").is_none();
-    let textbox = TagName::Textbox.tag(Text::of(alloc, "f")?);
-    let border = AttrName::Border
-        .with_number(3)
-        .is_some_and(|attr| attr.name().as_str() == "border");
-    Ok(simple && named && textbox.name().as_str() == "input" && border)
+    let textbox = textbox_name(Text::of(alloc, "f")?);
+    Ok(names_in_sources() && textbox == "input" && border_name(3) == "border")
 }

@@ -22,21 +22,21 @@ fn spelled(chain: &Chain, into: &mut String) -> Result<(), AllocError> {
 }
 
 /// Puts a chain of two texts and a list of two such chains into the region, and reads them.
-fn request(alloc: Global, region: &Region, first: &str) -> Result<String, AllocError> {
-    let mut read = String::new(alloc);
+fn request(region: &Region, first: &str, read: &mut String) -> Result<(), AllocError> {
     let last = region.put_value(Chain::Item(region.put_text("z")?, &Chain::Nothing))?;
     let whole = Chain::Item(region.put_text(first)?, last);
     for chain in region.put_slice(&[whole, *last])? {
-        spelled(chain, &mut read)?;
+        spelled(chain, read)?;
     }
-    Ok(read)
+    Ok(())
 }
 
 /// A region that is used, given up and used again.
 pub fn a_region_serves_again(alloc: Global) -> Result<bool, AllocError> {
     let mut region = Region::new(alloc);
-    let first = request(alloc, &region, "é")?;
+    let mut read = String::new(alloc);
+    request(&region, "é", &mut read)?;
     region.again();
-    let second = request(alloc, &region, "")?;
-    Ok(first.as_str() == "é,z,z," && second.as_str() == ",z,z,")
+    request(&region, "", &mut read)?;
+    Ok(read.as_str() == "é,z,z,,z,z,")
 }

@@ -7,9 +7,12 @@ use ur_outside::{MemFile, MemFiles};
 /// Files by their paths.
 type Folder = &'static [(&'static str, &'static [u8])];
 
+/// A project of one module.
+const SMALLEST: Folder = &[("p/p.urp", b"\nmain\n"), ("p/main.ur", b"val x = 1")];
+
 /// Each project in the folder `p`, with the line that refuses it; the empty line stands for none.
 const PROJECTS: [(Folder, &str); 12] = [
-    (&[("p/p.urp", b"\nmain\n"), ("p/main.ur", b"val x = 1")], ""),
+    (SMALLEST, ""),
     (
         &[
             ("p/p.urp", b"\nmain\n"),
@@ -68,10 +71,16 @@ fn folder(alloc: Global, files: Folder, failing: &[u64]) -> Result<MemFiles, All
     Ok(MemFiles::new(made, failing.to_vec(alloc)?))
 }
 
-/// The line that refuses the project in the folder `p`.
-fn line_of(alloc: Global, files: &mut MemFiles) -> Result<String, AllocError> {
+/// The one object that is known.
+fn objects(alloc: Global) -> Result<Texts, AllocError> {
     let mut objects = Texts::new(alloc);
     objects.push(Text::of(alloc, "Outbox")?)?;
+    Ok(objects)
+}
+
+/// The line that refuses the project in the folder `p`.
+fn line_of(alloc: Global, files: &mut MemFiles) -> Result<String, AllocError> {
+    let objects = objects(alloc)?;
     match read_sources(alloc, files, "p", &objects) {
         Ok(_) => "".to_string(alloc),
         Err(SourceFault::ReadFault) => "failed".to_string(alloc),
@@ -79,23 +88,26 @@ fn line_of(alloc: Global, files: &mut MemFiles) -> Result<String, AllocError> {
     }
 }
 
+/// Whether the project of these files, of which some calls fail, has this line.
+fn is_told(alloc: Global, files: Folder, failing: &[u64], line: &str) -> Result<bool, AllocError> {
+    let mut files = folder(alloc, files, failing)?;
+    Ok(line_of(alloc, &mut files)?.as_str() == line)
+}
+
 /// Each project's line.
 pub fn projects_are_read_or_refused_with_their_line(alloc: Global) -> Result<bool, AllocError> {
-    for (files, line) in &PROJECTS {
-        let mut files = folder(alloc, files, &[])?;
-        if line_of(alloc, &mut files)?.as_str() != *line {
+    for (files, line) in PROJECTS {
+        if !is_told(alloc, files, &[], line)? {
             return Ok(false);
         }
     }
     Ok(true)
 }
 
-/// The first project, with each call of the files in turn failing.
+/// The smallest project, with each call of the files in turn failing.
 pub fn failures_of_reading_are_told(alloc: Global) -> Result<bool, AllocError> {
-    let (files, _) = PROJECTS[0];
     for call in 0..4u64 {
-        let mut files = folder(alloc, files, &[call])?;
-        if line_of(alloc, &mut files)?.as_str() != "failed" {
+        if !is_told(alloc, SMALLEST, &[call], "failed")? {
             return Ok(false);
         }
     }

@@ -12,18 +12,24 @@ fn number(at: u32) -> Exp {
     }
 }
 
+/// A call with this argument.
+fn call(alloc: Global, argument: Box<Exp>) -> Result<Box<Exp>, AllocError> {
+    let mut items = Items::new(alloc);
+    items.push(Item::Term(Box::into_inner(argument)))?;
+    let head = Box::new(alloc, number(1))?;
+    let term = Exp {
+        place: Place { file: 0, at: 1 },
+        added: false,
+        form: Form::Call(head, Sigil::Plain, items),
+    };
+    Ok(Box::new(alloc, term)?)
+}
+
 /// A call in a call, so many times: as deep as terms are built.
-fn nested(alloc: Global, levels: u32) -> Result<Exp, AllocError> {
-    let mut term = number(0);
+fn nested(alloc: Global, levels: u32) -> Result<Box<Exp>, AllocError> {
+    let mut term = Box::new(alloc, number(0))?;
     for _ in 0..levels {
-        let mut items = Items::new(alloc);
-        items.push(Item::Term(term))?;
-        let head = Box::new(alloc, number(1))?;
-        term = Exp {
-            place: Place { file: 0, at: 1 },
-            added: false,
-            form: Form::Call(head, Sigil::Plain, items),
-        };
+        term = call(alloc, term)?;
     }
     Ok(term)
 }

@@ -46,11 +46,15 @@ fn tree(alloc: Global, tokens: &[(Kind, &str)]) -> Result<Tree, AllocError> {
     Ok(tree)
 }
 
+/// The place in the tree of these tokens.
+fn place(alloc: Global, tokens: &[(Kind, &str)]) -> Result<Option<u32>, AllocError> {
+    Ok(first_unbuilt(&tree(alloc, tokens)?))
+}
+
 /// The place in each tree.
 pub fn the_first_unbuilt_token_is_found(alloc: Global) -> Result<bool, AllocError> {
     for (tokens, wanted) in &TREES {
-        let tree = tree(alloc, tokens)?;
-        if first_unbuilt(&tree) != *wanted {
+        if place(alloc, tokens)? != *wanted {
             return Ok(false);
         }
     }

@@ -13,6 +13,9 @@ use type_makers::{arrow_kind, basis_datatypes, constructor_type, named_kind, row
 /// want of memory, since letting go of a scope takes stack for each.
 pub const MOST_TYPES: u32 = 10_000;
 
+/// How many kinds are put into a scope together.
+const TOGETHER: usize = 64;
+
 /// A value at the top.
 #[derive(Drop)]
 pub struct TopValue {
@@ -57,7 +60,11 @@ pub struct Tops {
     pub foreign: Foreigns,
     /// The symbols of `folder`.
     pub folders: Folders,
+    /// The kinds of all basic names.
     kinds: Kinds,
+    /// Those of all but the last few, and of these: so a look-up goes through few layers, however many types there are.
+    settled: Kinds,
+    recent: Vec<Basic>,
     /// How many types and folders were declared.
     declared: u32,
 }
@@ -93,6 +100,19 @@ fn basis_kinds(alloc: Global) -> Result<Kinds, AllocError> {
         basics.push(Basic { name, kind })?;
     }
     Kinds::new(alloc).with_basics(basics)
+}
+
+/// A copy of basic names with their kinds.
+fn copy_basics(alloc: Global, basics: &Vec<Basic>) -> Result<Vec<Basic>, AllocError> {
+    let mut copied = Vec::with_capacity(alloc, basics.len())?;
+    for basic in basics {
+        let kind = copy_kind(alloc, &basic.kind)?;
+        copied.push(Basic {
+            name: basic.name,
+            kind,
+        })?;
+    }
+    Ok(copied)
 }
 
 /// A number for what stands at this place; none above 2^32 - 1, which counts as want of memory.
@@ -144,6 +164,8 @@ impl Tops {
                 items: Vec::new(alloc),
             },
             kinds: basis_kinds(alloc)?,
+            settled: basis_kinds(alloc)?,
+            recent: Vec::new(alloc),
             declared: 0,
         };
         let datatypes = basis_datatypes(alloc)?;
@@ -208,7 +230,14 @@ impl Tops {
             return Err(AllocError);
         }
         self.declared += 1;
-        self.kinds = self.kinds.with_basic(name, kind)?;
+        let kind = copy_kind(self.alloc, kind)?;
+        self.recent.push(Basic { name, kind })?;
+        let together = copy_basics(self.alloc, &self.recent)?;
+        self.kinds = self.settled.with_basics(together)?;
+        if self.recent.len() >= TOGETHER {
+            self.settled = self.kinds.share()?;
+            self.recent = Vec::new(self.alloc);
+        }
         Ok(())
     }
 

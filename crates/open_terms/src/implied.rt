@@ -1,5 +1,7 @@
-//! Folders and instances, which calls insert.
+//! Folders and instances, which calls insert. Where the rules choose none, a gap stands in its place.
 use crate::env::Env;
+use crate::faults::too_large;
+use crate::gaps::{NO_FOLDER, NO_INSTANCE, inserted};
 use crate::heads::form_of;
 use crate::memory::{maybe_on_heap, on_heap};
 use crate::types::{boxed_head, boxed_reduced};
@@ -165,26 +167,16 @@ fn literal_fields(alloc: Global, row: &Con) -> Result<Option<Pairs>, AllocError>
     }
 }
 
-/// An inserted term.
-fn inserted(alloc: Global, place: Place, form: Form) -> Result<Box<Exp>, AllocError> {
-    let exp = Exp {
-        place,
-        added: true,
-        form,
-    };
-    on_heap(alloc, exp)
-}
-
-/// The folder of a row whose values have this kind.
+/// The folder of a row whose values have this kind; a gap, where the row isn't put together of literals.
 fn folder_of(
     alloc: Global,
     place: Place,
     kind: Box<Kind>,
     row: &Con,
-) -> Result<Box<Exp>, ElabFault> {
+) -> Result<Box<Exp>, AllocError> {
     match literal_fields(alloc, row)? {
-        None => Err(ElabFault::NoFolder(place)),
-        Some(fields) => Ok(inserted(alloc, place, Form::Folder(Box::into_inner(kind), fields))?),
+        None => inserted(alloc, place, Form::Top(NO_FOLDER)),
+        Some(fields) => inserted(alloc, place, Form::Folder(Box::into_inner(kind), fields)),
     }
 }
 
@@ -197,23 +189,43 @@ fn known_instance(
     maybe_on_heap(alloc, env.scope.instance(alloc, t)?)
 }
 
-/// The instance with this name.
-fn named_instance(alloc: Global, place: Place, name: ValueName) -> Result<Box<Exp>, ElabFault> {
+/// The instance with this name; a gap, where the name is no value's.
+fn named_instance(alloc: Global, place: Place, name: ValueName) -> Result<Box<Exp>, AllocError> {
     match form_of(name) {
-        None => Err(ElabFault::NoInstance(place)),
-        Some(form) => Ok(inserted(alloc, place, form)?),
+        None => inserted(alloc, place, Form::Top(NO_INSTANCE)),
+        Some(form) => inserted(alloc, place, form),
     }
 }
 
-/// The instance of this type.
-fn instance_of(alloc: Global, env: &Env, place: Place, t: &Con) -> Result<Box<Exp>, ElabFault> {
+/// The instance of this type; a gap, where none is in scope.
+fn instance_of(alloc: Global, env: &Env, place: Place, t: &Con) -> Result<Box<Exp>, AllocError> {
     match known_instance(alloc, env, t)? {
-        None => Err(ElabFault::NoInstance(place)),
+        None => inserted(alloc, place, Form::Top(NO_INSTANCE)),
         Some(known) => named_instance(alloc, place, known.name),
     }
 }
 
-/// The folder or the instance of this type.
+/// The folder or the instance of a type whose root is reduced.
+fn term_for(
+    alloc: Global,
+    env: &Env,
+    place: Place,
+    t: &Con,
+    head: &Con,
+) -> Result<Box<Exp>, AllocError> {
+    let Con::App(f, row) = head else {
+        return instance_of(alloc, env, place, t);
+    };
+    let Con::Basic(s) = &**f else {
+        return instance_of(alloc, env, place, t);
+    };
+    match folder_kind(alloc, env, *s)? {
+        None => instance_of(alloc, env, place, t),
+        Some(kind) => folder_of(alloc, place, kind, row),
+    }
+}
+
+/// The folder or the instance of this type, or a gap where the rules choose none.
 #[inline(never)]
 pub fn implied_term(
     alloc: Global,
@@ -221,19 +233,8 @@ pub fn implied_term(
     place: Place,
     t: &Con,
 ) -> Result<Box<Exp>, ElabFault> {
-    let head = match boxed_head(alloc, t)? {
-        Some(head) => head,
-        None => return instance_of(alloc, env, place, t),
-    };
-    let kind = match applied_basic(&head) {
-        None => None,
-        Some(s) => folder_kind(alloc, env, s)?,
-    };
-    match kind {
-        None => instance_of(alloc, env, place, t),
-        Some(kind) => match &*head {
-            Con::App(_, row) => folder_of(alloc, place, kind, row),
-            _ => Err(ElabFault::NoFolder(place)),
-        },
+    match boxed_head(alloc, t)? {
+        None => Err(too_large(place)),
+        Some(head) => Ok(term_for(alloc, env, place, t, &head)?),
     }
 }

@@ -4,6 +4,7 @@
 
 pub mod env;
 pub mod faults;
+pub mod gaps;
 pub mod heads;
 pub mod implied;
 pub mod leaves;
@@ -19,6 +20,7 @@ pub use faults::{
     any_function, any_guarded, any_poly, any_record, mismatch, not_of, not_wanted, record_of_pairs,
     unbound,
 };
+pub use gaps::inner_gaps_first;
 pub use heads::{Head, head_of_call, node, of_basis, operator};
 pub use implied::{implied_term, is_implied};
 pub use leaves::{number, number_of, words};

@@ -11,13 +11,14 @@ use plain_tree::{Node, Nodes};
 use std::alloc::Global;
 use term_parts::{Progress, Sought, ask, below, settled, term};
 
-/// Goes on with what a part gave.
+/// Goes on with what a part gave. Where it is refused, so is the whole.
 pub fn go_on<'a>(
     alloc: Global,
     after: PageAfter<'a>,
-    outcome: Outcome<'a>,
+    given: Result<Outcome<'a>, ElabFault>,
     room: u32,
 ) -> Result<Progress<'a, PageAfter<'a>>, ElabFault> {
+    let outcome = given?;
     match after {
         PageAfter::Spliced(rest, i) => spliced(alloc, rest, i, outcome, room),
         PageAfter::Tree(placing) => with_tree(alloc, placing, outcome, room),
@@ -26,6 +27,11 @@ pub fn go_on<'a>(
             with_attribute(alloc, attributing, place, name, outcome, room)
         }
     }
+}
+
+/// What never ends counts as want of memory. What it holds is let go here, where that is proved, and not by its caller.
+pub fn endless(_progress: Progress<'_, PageAfter<'_>>) -> ElabFault {
+    ElabFault::Memory
 }
 
 /// `<xml> .. </xml>`
@@ -38,20 +44,20 @@ pub fn of_xml<'a>(
     let Sought { env, want, source } = Box::into_inner(sought);
     let place = env.place(source.at);
     let rest = PageRest { env, place, nodes };
-    of_page(alloc, on_heap(alloc, rest)?, &want, room)
+    of_page(alloc, on_heap(alloc, rest)?, want, room)
 }
 
 /// A literal of which this is wanted. Where nothing tells its context as yet, it is open.
 pub fn of_page<'a>(
     alloc: Global,
     rest: Box<PageRest<'a>>,
-    want: &Want,
+    want: Want,
     room: u32,
 ) -> Result<Progress<'a, PageAfter<'a>>, ElabFault> {
-    match wanted_ground(alloc, want)? {
+    match wanted_ground(alloc, &want)? {
         Some(ground) => literal_at(alloc, rest, ground, None, room),
         None => {
-            if may_grow(want) {
+            if may_grow(&want) {
                 return Ok(Progress::Ended(later(alloc, Core::Page(rest))?));
             }
             chosen(alloc, rest, room)

@@ -13,8 +13,9 @@ use Rattle.ur_outside.specs.Whole.{AppendsFront}
 use Rattle.site_build.specs.declared.fault.BuildFault.{BuildFault}
 use Rattle.site_build.specs.Causes.{IsCauseIn}
 use Rattle.site_build.specs.Lines.{line_of as line_of_build}
-use Rattle.site_build.specs.Sources.{IsProgramOfText}
+use Rattle.site_build.specs.Sources.{HasProgram, IsProgramOfText}
 use Rattle.site_build.specs.Unshown.{HasNoPage}
+use Rattle.page_server.specs.Lines.{accepted}
 use Rattle.page_server.specs.Words.{is_build, reads, for_check, for_explicit, for_page}
 
 -- the one word `page`
@@ -62,6 +63,26 @@ abbrev pub UnbuiltIsWritten : Option Told → List ℕ → Option (List ℕ) →
 UnbuiltIsWritten told dir old new =
     (fault : BuildFault) × (line : List ℕ) × (line_of_build fault ≡ Some line) × Appends old new line
     × IfSome told (λ files. IsCauseIn files dir [] fault)
+
+-- It isn't built, and the output grew by a front of that line.
+abbrev pub UnbuiltFrontIsWritten : Option Told → List ℕ → Option (List ℕ) → Option (List ℕ) → Type 0
+UnbuiltFrontIsWritten told dir old new =
+    (fault : BuildFault) × (line : List ℕ) × (line_of_build fault ≡ Some line) × AppendsFront old new line
+    × IfSome told (λ files. IsCauseIn files dir [] fault)
+
+-- the project has an accepted program, where the files are told
+abbrev pub IsBuilt : Option Told → List ℕ → Type 0
+IsBuilt told dir = IfSome told (λ files. HasProgram files dir [])
+
+-- The output grew by a front of what `check` says of the project: that it is accepted, or why it isn't built.
+abbrev pub CheckFrontIsWritten : Option Told → List ℕ → Option (List ℕ) → Option (List ℕ) → Type 0
+CheckFrontIsWritten told dir old new =
+    (IsBuilt told dir × AppendsFront old new accepted) ⊎ UnbuiltFrontIsWritten told dir old new
+
+-- The output grew by a front of what `explicit` says of it: some text, or why it isn't built.
+abbrev pub ExplicitFrontIsWritten : Option Told → List ℕ → Option (List ℕ) → Option (List ℕ) → Type 0
+ExplicitFrontIsWritten told dir old new =
+    (IsBuilt told dir × (text : List ℕ) × AppendsFront old new text) ⊎ UnbuiltFrontIsWritten told dir old new
 
 -- the output grew by some text, or by a front of one
 abbrev pub SomeIsWritten : Option (List ℕ) → Option (List ℕ) → Type 0

@@ -11,8 +11,8 @@ ghost use Rattle.site_build.specs.Unshown.{HasNoPage};
 ghost use Rattle.ur_outside.specs.Causes.{Rose};
 ghost use Rattle.ur_outside.specs.Whole.{AppendsFront};
 ghost use Rattle.page_server.specs.Lines.{accepted, usage};
-ghost use Rattle.page_server.specs.Top.{FrontIsWritten, IsBuildCommand, IsBuildOf, IsMeant, IsNoCommand, IsPageCommand, PageIsWritten, RefusalIsWritten, SomeFrontIsWritten, SomeIsWritten, UnbuiltIsWritten};
-ghost use Rattle.page_server.specs.Words.{for_check, reads};
+ghost use Rattle.page_server.specs.Top.{CheckFrontIsWritten, ExplicitFrontIsWritten, FrontIsWritten, IsBuildCommand, IsBuildOf, IsMeant, IsNoCommand, IsPageCommand, PageIsWritten, RefusalIsWritten, SomeFrontIsWritten, SomeIsWritten, UnbuiltIsWritten};
+ghost use Rattle.page_server.specs.Words.{for_check, for_explicit, reads};
 
 use crate::words::{Command, read_command};
 use page_bytes::write_page;
@@ -124,7 +124,8 @@ fn end_page<T: Terms + Drop, I: Source, O: Sink>(
 fn end_unbuilt<O: Sink>(alloc: Global, output: &mut O, fault: &BuildFault) -> Ended
     ensures written { result.status ≡ 1 → (line : List ℕ) × (line_of_build fault.now ≡ Some line)
         × Appends (O.wrote output.old) (O.wrote output.new) line }
-    ensures front { result.status ≡ 4 → SomeFrontIsWritten (O.wrote output.old) (O.wrote output.new) }
+    ensures front { result.status ≡ 4 → (line : List ℕ) × (line_of_build fault.now ≡ Some line)
+        × AppendsFront (O.wrote output.old) (O.wrote output.new) line }
     ensures kept { result.status ≡ 5 → Keeps (O.wrote output.old) (O.wrote output.new) }
     ensures other { (result.status ≡ 1) ⊎ (result.status ≡ 4) ⊎ (result.status ≡ 5) }
     ensures failed { result.status ≡ 4 → Rose (O.faults output.old) (O.faults output.new) }
@@ -140,6 +141,8 @@ fn end_built<O: Sink>(output: &mut O, program: &str, explicit: bool) -> Ended
     ensures accepted { explicit ≡ false → result.status ≡ 0
         → Appends (O.wrote output.old) (O.wrote output.new) accepted }
     ensures written { result.status ≡ 0 → SomeIsWritten (O.wrote output.old) (O.wrote output.new) }
+    ensures check_front { explicit ≡ false → result.status ≡ 4
+        → AppendsFront (O.wrote output.old) (O.wrote output.new) accepted }
     ensures front { result.status ≡ 4 → SomeFrontIsWritten (O.wrote output.old) (O.wrote output.new) }
     ensures other { (result.status ≡ 0) ⊎ (result.status ≡ 4) }
     ensures failed { result.status ≡ 4 → Rose (O.faults output.old) (O.faults output.new) }
@@ -168,7 +171,10 @@ fn end_build<T: Terms + Drop, F: Files, O: Sink>(
     ensures refused { result.status ≡ 1
         → UnbuiltIsWritten (F.told files.old) dir.now (O.wrote output.old) (O.wrote output.new) }
     ensures kept { (result.status ≡ 3) ⊎ (result.status ≡ 5) → Keeps (O.wrote output.old) (O.wrote output.new) }
-    ensures front { result.status ≡ 4 → SomeFrontIsWritten (O.wrote output.old) (O.wrote output.new) }
+    ensures check_front { explicit ≡ false → result.status ≡ 4
+        → CheckFrontIsWritten (F.told files.old) dir.now (O.wrote output.old) (O.wrote output.new) }
+    ensures explicit_front { result.status ≡ 4
+        → ExplicitFrontIsWritten (F.told files.old) dir.now (O.wrote output.old) (O.wrote output.new) }
     ensures told { F.told files.new ≡ F.told files.old }
     ensures read_failed { result.status ≡ 3 → Rose (F.faults files.old) (F.faults files.new) }
     ensures write_failed { result.status ≡ 4 → Rose (O.faults output.old) (O.faults output.new) }
@@ -225,6 +231,11 @@ pub fn top<T: Terms + Drop, F: Files, I: Source, O: Sink>(
         → Keeps (O.wrote line.old.output) (O.wrote line.new.output) }
     ensures front { result.status ≡ 4 → IsPageCommand (map string_bytes words.now)
         → FrontIsWritten (I.left line.old.input) (O.wrote line.old.output) (O.wrote line.new.output) }
+    ensures check_front { (dir : List ℕ) → reads (map string_bytes words.now) ≡ Some (for_check dir) → result.status ≡ 4
+        → CheckFrontIsWritten (F.told files.old) dir (O.wrote line.old.output) (O.wrote line.new.output) }
+    ensures explicit_front { (dir : List ℕ) → reads (map string_bytes words.now) ≡ Some (for_explicit dir)
+        → result.status ≡ 4
+        → ExplicitFrontIsWritten (F.told files.old) dir (O.wrote line.old.output) (O.wrote line.new.output) }
     ensures usage_front { result.status ≡ 4 → IsNoCommand (map string_bytes words.now)
         → AppendsFront (O.wrote line.old.output) (O.wrote line.new.output) usage }
 

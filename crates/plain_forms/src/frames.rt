@@ -2,12 +2,15 @@
 use con_terms::{Con, Place};
 use core_terms::{Branch, Branches, Pat};
 use name_scopes::ElabFault;
-use open_terms::{CaseRest, Env, Frame, Outcome, Typed, Want, add, boxed_copy, on_heap, under};
+use open_terms::{
+    CaseRest, Env, Frame, Outcome, Pending, Typed, Want, add, boxed_copy, on_heap, under,
+};
 use plain_tree::Exp;
 use std::alloc::{AllocError, Global};
+use std::mem::replace;
 use term_parts::{
     Part, Progress, Sought, around_case, around_con, around_fn, around_guard, around_let, ask,
-    below, pattern, settled, term, with_bound,
+    below, pattern, settled, term, want_inside, with_bound,
 };
 
 /// What stands around a term, the outermost first, and the number of levels that were left inside of it.
@@ -56,13 +59,14 @@ pub enum FrameAfter<'a> {
     Branch(Box<Branching<'a>>),
 }
 
-/// Goes on with what a part gave.
+/// Goes on with what a part gave. Where it is refused, so is the whole.
 pub fn go_on<'a>(
     alloc: Global,
     after: FrameAfter<'a>,
-    outcome: Outcome<'a>,
+    given: Result<Outcome<'a>, ElabFault>,
     room: u32,
 ) -> Result<Progress<'a, FrameAfter<'a>>, ElabFault> {
+    let outcome = given?;
     match after {
         FrameAfter::Around(around) => {
             let Around { frames, left } = Box::into_inner(around);
@@ -71,6 +75,11 @@ pub fn go_on<'a>(
         FrameAfter::Scrutinee(start) => scrutinized(alloc, start, outcome, room),
         FrameAfter::Branch(branching) => with_branch(alloc, branching, outcome),
     }
+}
+
+/// What never ends counts as want of memory. What it holds is let go here, where that is proved, and not by its caller.
+pub fn endless(_progress: Progress<'_, FrameAfter<'_>>) -> ElabFault {
+    ElabFault::Memory
 }
 
 /// A branch with its pattern matched.
@@ -171,6 +180,29 @@ pub fn ask_inside<'a>(
         FrameAfter::Around(on_heap(alloc, around)?),
         part,
         below(room),
+    )
+}
+
+/// A term that was open and has something around it: the open part first.
+pub fn reopened<'a>(
+    alloc: Global,
+    pending: Box<Pending<'a>>,
+    want: Want,
+    room: u32,
+) -> Result<Progress<'a, FrameAfter<'a>>, ElabFault> {
+    let mut pending = pending;
+    let frames = replace(&mut pending.frames, Vec::new(alloc));
+    if frames.len() >= room as usize {
+        return Err(ElabFault::Memory);
+    }
+    let left = room - frames.len() as u32;
+    let inside = want_inside(alloc, &frames, &want)?;
+    let around = on_heap(alloc, Around { frames, left })?;
+    ask(
+        alloc,
+        FrameAfter::Around(around),
+        Part::Open(pending, inside),
+        left,
     )
 }
 

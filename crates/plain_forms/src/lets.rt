@@ -55,19 +55,25 @@ impl<'a> Becomes<LetAfter<'a>> for FrameAfter<'a> {
     }
 }
 
-/// Goes on with what a part gave.
+/// Goes on with what a part gave. Where it is refused, so is the whole.
 pub fn go_on<'a>(
     alloc: Global,
     after: LetAfter<'a>,
-    outcome: Outcome<'a>,
+    given: Result<Outcome<'a>, ElabFault>,
     room: u32,
 ) -> Result<Progress<'a, LetAfter<'a>>, ElabFault> {
+    let outcome = given?;
     match after {
         LetAfter::Val(letting, source, con) => with_val(alloc, letting, source, con, outcome, room),
         LetAfter::ValRec(letting, grouping) => with_named(alloc, letting, grouping, outcome, room),
         LetAfter::Typed(place, con) => with_type(alloc, place, con, outcome),
-        LetAfter::Frame(after) => raised(alloc, frames::go_on(alloc, after, outcome, room)?),
+        LetAfter::Frame(after) => raised(alloc, frames::go_on(alloc, after, Ok(outcome), room)?),
     }
+}
+
+/// What never ends counts as want of memory. What it holds is let go here, where that is proved, and not by its caller.
+pub fn endless(_progress: Progress<'_, LetAfter<'_>>) -> ElabFault {
+    ElabFault::Memory
 }
 
 /// `let .. in e end`

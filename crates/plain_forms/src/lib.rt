@@ -6,6 +6,6 @@ pub mod frames;
 pub mod functions;
 pub mod lets;
 
-pub use frames::{Around, FrameAfter, of_case};
+pub use frames::{Around, FrameAfter, of_case, reopened};
 pub use functions::{of_fn, of_fn_rest};
 pub use lets::{LetAfter, of_let, of_typed};

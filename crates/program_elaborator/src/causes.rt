@@ -3,14 +3,12 @@ ghost use Rattle.std.specs.Prelude.{◌≡◌, ◌≢◌, true, map, IfOk};
 ghost use Rattle.core_terms.specs.Lists.{foreigns_view};
 ghost use Rattle.plain_tree.specs.View.{plain_view};
 ghost use Rattle.name_scopes.specs.declared.fault.ElabFault.TheVariants as elab;
-ghost use Rattle.program_elaborator.specs.Causes.{differ as are_different, is_caused as has_its_cause, is_told_rightly, kinds_differ as have_different_kinds, touch as are_touching};
+ghost use Rattle.program_elaborator.specs.Causes.{differ as are_different, is_caused as has_its_cause, is_told_rightly, kinds_differ as have_different_kinds};
 
 use crate::fault::{Refusal, memory};
 use crate::program::Source;
 use con_terms::{Kind, same_kind};
-use disjoint_prover::Guards;
-use disjoint_prover::fault::Pieces;
-use kind_rules::compare::{Comparison, compare, flaw_between};
+use kind_rules::compare::{Comparison, compare};
 use kind_rules::flaw::Differing;
 use name_scopes::ElabFault;
 use std::alloc::{AllocError, Global};
@@ -34,18 +32,6 @@ fn kinds_differ(kinds: &Differing) -> bool
     !same_kind(&kinds.wanted, &kinds.found)
 }
 
-/// Whether names alone don't show the two rows to be disjoint that a fault keeps, or one of these is too large to
-/// compare. Guards that are in scope aren't looked at.
-fn touch(alloc: Global, pieces: &Pieces) -> Result<bool, AllocError>
-    ensures { IfOk result (λ b. b ≡ are_touching pieces.now) }
-{
-    let none = Guards::new(alloc);
-    match flaw_between(alloc, &none, &pieces.left, &pieces.right, &Kind::Types)? {
-        None => Ok(false),
-        Some(_) => Ok(true),
-    }
-}
-
 /// Whether a fault of types is told rightly.
 fn is_right(alloc: Global, fault: &Fault) -> Result<bool, AllocError>
     ensures { IfOk result (λ b. b ≡ is_told_rightly fault.now) }
@@ -53,7 +39,6 @@ fn is_right(alloc: Global, fault: &Fault) -> Result<bool, AllocError>
     match fault {
         Fault::Mismatch(_, _, types) => differ(alloc, types),
         Fault::KindMismatch(_, kinds) => Ok(kinds_differ(kinds)),
-        Fault::NotDisjoint(_, _, pieces) => touch(alloc, pieces),
         Fault::TooLarge(_) => Ok(true),
         _ => Ok(false),
     }
@@ -75,6 +60,7 @@ fn is_caused(alloc: Global, source: &Source, fault: &ElabFault) -> Result<bool, 
             name,
         ),
         ElabFault::Told(told) => is_right(alloc, told),
+        ElabFault::NoInstance(_) | ElabFault::NoFolder(_) => Ok(false),
         _ => Ok(true),
     }
 }

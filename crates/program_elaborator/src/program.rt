@@ -6,6 +6,7 @@ ghost use Rattle.core_terms.specs.View.{program_view};
 ghost use Rattle.plain_tree.specs.View.{plain_view};
 ghost use Rattle.program_elaborator.specs.Causes.{is_caused};
 ghost use Rattle.inserted_terms.specs.Programs.{InsertsChosen};
+ghost use Rattle.placed_terms.specs.Placed.{are_placed as stand_there};
 ghost use Rattle.source_terms.specs.Programs.{is_source as says};
 
 use crate::causes::caused;
@@ -18,6 +19,7 @@ use crate::texts::all_texts;
 use core_terms::{Decls, Exports, Foreigns, Program, Rules};
 use inserted_terms::inserts_chosen;
 use name_scopes::Tops;
+use placed_terms::are_placed;
 use plain_tree::Plain;
 use source_terms::is_source;
 use std::alloc::{AllocError, Global};
@@ -41,7 +43,9 @@ pub struct Source {
 /// the modules say, with their names resolved and nothing left out. A name that is told as unbound stands where it is
 /// told and isn't in scope there, and the sides of a mismatch differ. Each folder and each instance that a call inserts
 /// is the one that its rules choose for the parameter's type: of a folder the fields of the row in the written order,
-/// of an instance the last value that is declared for the class and the type.
+/// of an instance the last value that is declared for the class and the type. Where they choose none a gap stands in
+/// its place, and the checker is left to refuse the program. Each node of the program stands where that of the modules
+/// stands for which it was made.
 pub fn elaborate_with<T: Terms + Drop>(
     alloc: Global,
     terms: &T,
@@ -51,6 +55,7 @@ pub fn elaborate_with<T: Terms + Drop>(
         (rules_view source.rules) (foreigns_view source.foreign) (program_view p) ≡ true) }
     ensures inserted { IfOk result
         (λ p. InsertsChosen source.modules (map plain_view source.trees.items) (program_view p)) }
+    ensures placed { IfOk result (λ p. stand_there (map plain_view source.trees.items) (program_view p) ≡ true) }
     ensures cause { IfErr result (λ r. is_caused source.modules (map plain_view source.trees.items)
         (foreigns_view source.foreign) r.fault ≡ true) }
 {
@@ -60,13 +65,15 @@ pub fn elaborate_with<T: Terms + Drop>(
     }
 }
 
-/// A program, where it is what its source says and inserts what its rules choose. One that isn't, or doesn't, counts as
-/// want of memory.
+/// A program, where it is what its source says, inserts what its rules choose, and has its nodes where the source has
+/// them. One that isn't so counts as want of memory.
 fn held(alloc: Global, source: &Source, program: Program) -> Result<Program, Refusal>
     ensures source { IfOk result (λ p. says source.now.modules (map plain_view source.now.trees.items)
         source.now.exported (rules_view source.now.rules) (foreigns_view source.now.foreign) (program_view p) ≡ true) }
     ensures inserted { IfOk result
         (λ p. InsertsChosen source.now.modules (map plain_view source.now.trees.items) (program_view p)) }
+    ensures placed { IfOk result
+        (λ p. stand_there (map plain_view source.now.trees.items) (program_view p) ≡ true) }
     ensures cause { IfErr result (λ r. is_caused source.now.modules (map plain_view source.now.trees.items)
         (foreigns_view source.now.foreign) r.fault ≡ true) }
 {
@@ -82,7 +89,11 @@ fn held(alloc: Global, source: &Source, program: Program) -> Result<Program, Ref
     let Ok(true) = read else {
         return Err(memory(alloc));
     };
-    match inserts_chosen(alloc, &source.modules, source.trees.as_slice(), &program) {
+    let chosen = inserts_chosen(alloc, &source.modules, source.trees.as_slice(), &program);
+    let Ok(true) = chosen else {
+        return Err(memory(alloc));
+    };
+    match are_placed(alloc, source.trees.as_slice(), &program) {
         Ok(true) => Ok(program),
         _ => Err(memory(alloc)),
     }

@@ -50,19 +50,25 @@ pub enum RecordAfter<'a> {
     FieldRest(Box<Refilling<'a>>, FieldName),
 }
 
-/// Goes on with what a part gave.
+/// Goes on with what a part gave. Where it is refused, so is the whole.
 pub fn go_on<'a>(
     alloc: Global,
     after: RecordAfter<'a>,
-    outcome: Outcome<'a>,
+    given: Result<Outcome<'a>, ElabFault>,
     room: u32,
 ) -> Result<Progress<'a, RecordAfter<'a>>, ElabFault> {
+    let outcome = given?;
     match after {
         RecordAfter::Field(recording, name) => with_field(alloc, recording, name, outcome, room),
         RecordAfter::FieldRest(refilling, name) => {
             with_open_field(alloc, refilling, name, outcome, room)
         }
     }
+}
+
+/// What never ends counts as want of memory. What it holds is let go here, where that is proved, and not by its caller.
+pub fn endless(_progress: Progress<'_, RecordAfter<'_>>) -> ElabFault {
+    ElabFault::Memory
 }
 
 /// The fields of a wanted record type; none where it isn't known, or is another type.

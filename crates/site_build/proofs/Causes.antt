@@ -3,13 +3,14 @@ use Rattle.std.proofs.Common.{ℕ, List, refl, subst, sym, inl, inr}
 use Rattle.ur_outside.specs.Files.{Told}
 use Rattle.ur_parser.specs.Sources.{module_part}
 use Rattle.surface_grammar.specs.Trees.{Node}
+use Rattle.project_files.specs.Lines.{Line}
 use Rattle.project_sources.specs.Causes.{Says}
 use Rattle.project_sources.specs.Projects.{HoldsProject, HoldsNoProject, ProjectTrees}
 use Rattle.project_sources.specs.Texts.{HasNoTree, IsModuleTree}
 use Rattle.project_sources.specs.declared.fault.SourceFault.{SourceFault}
 use Rattle.project_sources.specs.declared.fault.SourceFault.TheVariants as source
-use Rattle.site_build.specs.Causes.{AreBuilt, HaveFewTables, HaveManyTables, IsCauseIn, IsCauseOfText, only_file}
-use Rattle.site_build.specs.Faults.{IsOfForms, IsOfModules, IsOfOutside, IsOfProgram, IsOfTables}
+use Rattle.site_build.specs.Causes.{AreBuilt, HaveFewTables, IsCauseIn, IsCauseOfText, IsLineOf, only_file}
+use Rattle.site_build.specs.Faults.{IsAtModule, IsBeyondAt, IsOfForms, IsOfModules, IsOfOutside, IsOfProgram}
 use Rattle.site_build.specs.Lines.{of_source}
 use Rattle.site_build.specs.Sources.{only_module}
 use Rattle.site_build.specs.declared.fault.BuildFault.{BuildFault}
@@ -47,10 +48,12 @@ unread_in files dir objects source.ReadFault h = tt
 unread_in files dir objects source.Memory h = tt
 
 -- it holds one with too many tables
-pub tables_in_project : (files : Told) (dir : List ℕ) (objects : List (List ℕ)) (p : ProjectTrees) (fault : BuildFault) → HoldsProject files dir objects p
-    → HaveManyTables p.modules → IsOfTables fault → IsCauseIn files dir objects fault
-tables_in_project files dir objects p fault holds many (file, line, is) =
-    subst (IsCauseIn files dir objects) (sym is) (inr (p, holds, many, file, line, refl))
+pub tables_in_project : (files : Told) (dir : List ℕ) (objects : List (List ℕ)) (p : ProjectTrees) (name : Line) (fault : BuildFault)
+    → HoldsProject files dir objects p → IsBeyondAt p.modules name → IsAtModule files dir name fault → IsCauseIn files dir objects fault
+tables_in_project files dir objects p name fault holds (m, beyond, named) at =
+    let (line, is, told) = at p.said holds.says in
+    subst (IsCauseIn files dir objects) (sym told)
+    (inr (p, holds, m, beyond, line, subst (λ (l : Line). IsLineOf holds.says.says.lines l line) (sym named) is, refl))
 
 -- the outside or want of memory
 pub outside_in : (files : Told) (dir : List ℕ) (objects : List (List ℕ)) (fault : BuildFault) → IsOfOutside fault → IsCauseIn files dir objects fault

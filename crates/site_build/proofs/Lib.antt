@@ -4,7 +4,15 @@ pub mod Sources
 pub mod Causes
 -- From what inference and the checker promise to why a program is refused.
 pub mod Refused
+-- Too many tables are told at one line at most (for the laws).
+mod OneLine
 -- One cause at most (for the laws).
 mod OneCause
 -- What is so of the trees that the modules which were read list (for `first_beyond` and `are_built`).
 pub mod Listed
+-- The lines of project files, and at which a module stands (for `first_like`, `line_of` and the laws).
+mod ProjectLines
+-- At which line too many tables are told (for `file_of`, `line_in` and `too_many_tables`).
+mod TooMany
+-- The name of a project's file among others (for `project_name` and the laws).
+mod ProjectNames

@@ -1,16 +1,28 @@
 -- What is so of the trees that the modules which were read list.
-use Rattle.std.proofs.Common.{◌≡◌, ℕ, zero, suc, ◌+◌, ◌<◌, ◌≤◌, inl, inr, List, [], ◌∷◌, Option, Some, None, count_by, get_or, length, min, take, slice_get, true, refl, ap, ap₂, sym, ◌∙◌, subst, arith}
+use Rattle.std.proofs.Common.{◌≡◌, ℕ, zero, suc, ◌+◌, ◌<◌, ◌≤◌, inl, inr, List, [], ◌∷◌, ◌++◌, Option, Some, None, count_by, get_or, length, map, min, take, slice_get, true, refl, ap, ap₂, sym, ◌∙◌, subst, arith}
 use Rattle.std.specs.List.{list_any}
 use Rattle.con_terms.specs.declared.place.Place.{Place}
 use Rattle.surface_grammar.specs.Trees.{spell}
 use Rattle.surface_tree.specs.declared.token.Token.{Token}
 use Rattle.unbuilt_forms.specs.Unbuilt.{IsFirstUnbuilt}
+use Rattle.plain_projects.specs.Said.{names_said}
+use Rattle.project_files.specs.Directives.{module_name}
 use Rattle.project_sources.specs.Modules.{ModuleTrees, module_file}
 use Rattle.project_sources.specs.View.{ListsModules}
 use Rattle.project_sources.specs.declared.modules.ModuleSource.{ModuleSource}
 use Rattle.site_build.specs.Causes.{AreBuilt, IsUnbuiltAt, tables_in}
+use Rattle.site_build.specs.Faults.{IsBeyondAt}
 use Rattle.site_build.specs.Refusals.{IsAt, begins_at}
 use Rattle.site_build.specs.Tables.{is_table}
+
+-- ---- names
+
+-- the names of modules that were read
+pub listed_names : (ss : List ModuleSource) (ms : List ModuleTrees) → ListsModules ss ms → map (λ (s : ModuleSource). module_name s.line) ss ≡ names_said ms
+listed_names [] [] h = refl
+listed_names [] (m ∷ ms) h = absurd h
+listed_names (s ∷ ss) [] h = absurd h
+listed_names (s ∷ ss) (m ∷ ms) (one, rest) = ap₂ (λ (a : List ℕ) (b : List (List ℕ)). a ∷ b) (ap module_name one.line) (listed_names ss ms rest)
 
 -- ---- tables
 
@@ -50,6 +62,28 @@ many_listed ss i s h is many ms lists = omega (arith, many, more_tables ss i s h
 
 pub few_listed : (ss : List ModuleSource) → tables_of ss ≤ 1000 → (ms : List ModuleTrees) → ListsModules ss ms → tables_in ms ≤ 1000
 few_listed ss few ms lists = omega (arith, few, listed_tables ss ms lists)
+
+-- what stands at a place of the modules, and how many tables those before it declare, and those with it
+placed_tables : (ss : List ModuleSource) (i : ℕ) (s : ModuleSource) → i < length ss → s ≡ get_or ss i s → (ms : List ModuleTrees) → ListsModules ss ms
+    → (before : List ModuleTrees) × (m : ModuleTrees) × (after : List ModuleTrees) × (ms ≡ before ++ m ∷ after) × (m.line ≡ s.line)
+    × (tables_in before ≡ tables_of (take i ss)) × (tables_in (before ++ m ∷ []) ≡ tables_of (take i ss) + count_by is_table s.tree.leaves)
+placed_tables [] i s h is ms lists = absurd (omega (arith, h))
+placed_tables (x ∷ ss) i s h is [] lists = absurd lists
+placed_tables (x ∷ ss) zero s h is (m ∷ ms) (one, rest) =
+    let here : count_by is_table (spell m.tree) ≡ count_by is_table s.tree.leaves =
+    ap (λ (l : List Token). count_by is_table l) (sym one.tree.0) ∙ ap (λ (y : ModuleSource). count_by is_table y.tree.leaves) (sym is) in
+    ([], m, ms, refl, sym one.line ∙ ap (λ (y : ModuleSource). y.line) (sym is), refl, omega (arith, here))
+placed_tables (x ∷ ss) (suc i) s h is (m ∷ ms) (one, rest) =
+    let t = placed_tables ss i s (omega (arith, h)) is ms rest in
+    let first : count_by is_table (spell m.tree) ≡ count_by is_table x.tree.leaves = ap (λ (l : List Token). count_by is_table l) (sym one.tree.0) in
+    (m ∷ t.0, t.1, t.2, ap (λ l. m ∷ l) t.3, t.4, omega (arith, first, t.5), omega (arith, first, t.6))
+
+-- so it is the first with which they are too many
+pub beyond_listed : (ss : List ModuleSource) (i : ℕ) (s : ModuleSource) → i < length ss → s ≡ get_or ss i s → tables_of (take i ss) ≤ 1000
+    → 1000 < tables_of (take i ss) + count_by is_table s.tree.leaves → (ms : List ModuleTrees) → ListsModules ss ms → IsBeyondAt ms s.line
+beyond_listed ss i s h is few many ms lists =
+    let t = placed_tables ss i s h is ms lists in
+    (t.1, record { before = t.0; after = t.2; modules_are = t.3; few = omega (arith, few, t.5); many = omega (arith, many, t.6) }, t.4)
 
 -- ---- forms that aren't built yet
 

@@ -10,7 +10,8 @@ use Rattle.project_sources.specs.Projects.{FoldersHaveOneAnswer, RefusalsHaveOne
 use Rattle.project_sources.specs.Texts.{IsModuleTree, ModulesHaveOneAnswer}
 use Rattle.project_sources.specs.declared.fault.SourceFault.{SourceFault}
 use Rattle.site_build.specs.Causes.{AreBuilt, HaveFewTables, HaveManyTables, IsCauseIn, IsCauseOf, IsCauseOfText, IsUnbuiltAt, only_file}
-use Rattle.site_build.specs.Laws.{AreOne, AreOneOrLines, ProjectsHaveOneCause, TextsHaveOneCause}
+use Rattle.site_build.specs.Laws.{AreOne, ProjectsHaveOneCause, TextsHaveOneCause}
+use Rattle.site_build.proofs.OneLine.{many_of_beyond, many_source}
 use Rattle.site_build.specs.Sources.{only_module}
 use Rattle.site_build.specs.declared.fault.BuildFault.{BuildFault}
 use Rattle.site_build.specs.declared.fault.BuildFault.TheVariants.{Source, NotBuilt, Refused, ReadFault, Memory}
@@ -60,21 +61,21 @@ many_or_few : (ms : List ModuleTrees) → HaveManyTables ms → HaveFewTables ms
 many_or_few ms many few = omega (arith, many, few)
 
 -- causes in the same project
-one_of_modules : (same : SourceFault → SourceFault → Type 0) (p : ProjectTrees) (fault other : BuildFault) → IsCauseOf p fault → IsCauseOf p other
-    → AreOne same fault other
-one_of_modules same p (Source fault) other h k = absurd h
-one_of_modules same p (NotBuilt file at) (Source fault) h k = absurd k
-one_of_modules same p (NotBuilt file at) (NotBuilt other place) h k = one_unbuilt p.modules file other at place h k
-one_of_modules same p (NotBuilt file at) (Refused other place told) h k = built_or_not p.modules file at h k.0
-one_of_modules same p (NotBuilt file at) ReadFault h k = tt
-one_of_modules same p (NotBuilt file at) Memory h k = tt
-one_of_modules same p (Refused file at told) (Source fault) h k = absurd k
-one_of_modules same p (Refused file at told) (NotBuilt other place) h k = built_or_not p.modules other place k h.0
-one_of_modules same p (Refused file at told) (Refused other place again) h k = tt
-one_of_modules same p (Refused file at told) ReadFault h k = tt
-one_of_modules same p (Refused file at told) Memory h k = tt
-one_of_modules same p ReadFault other h k = tt
-one_of_modules same p Memory other h k = tt
+one_of_modules : (p : ProjectTrees) (fault other : BuildFault) → IsCauseOf p fault → IsCauseOf p other
+    → AreOne fault other
+one_of_modules p (Source fault) other h k = absurd h
+one_of_modules p (NotBuilt file at) (Source fault) h k = absurd k
+one_of_modules p (NotBuilt file at) (NotBuilt other place) h k = one_unbuilt p.modules file other at place h k
+one_of_modules p (NotBuilt file at) (Refused other place told) h k = built_or_not p.modules file at h k.0
+one_of_modules p (NotBuilt file at) ReadFault h k = tt
+one_of_modules p (NotBuilt file at) Memory h k = tt
+one_of_modules p (Refused file at told) (Source fault) h k = absurd k
+one_of_modules p (Refused file at told) (NotBuilt other place) h k = built_or_not p.modules other place k h.0
+one_of_modules p (Refused file at told) (Refused other place again) h k = tt
+one_of_modules p (Refused file at told) ReadFault h k = tt
+one_of_modules p (Refused file at told) Memory h k = tt
+one_of_modules p ReadFault other h k = tt
+one_of_modules p Memory other h k = tt
 
 -- ---- a module alone
 
@@ -93,10 +94,10 @@ text_taken law bytes tree fault is few (inr (other, is', many, e)) =
     many_or_few (only_module tree).modules (subst (λ (n : Node). HaveManyTables (only_module n).modules) same many) few
 
 text_tree : ModulesHaveOneAnswer → (bytes : List ℕ) (fault other : BuildFault) (tree node : Node) → IsModuleTree bytes tree → IsModuleTree bytes node
-    → IsCauseOf (only_module tree) fault → IsCauseOf (only_module node) other → AreOne (λ (f g : SourceFault). f ≡ g) fault other
+    → IsCauseOf (only_module tree) fault → IsCauseOf (only_module node) other → AreOne fault other
 text_tree law bytes fault other tree node is is' h k =
     let same : node ≡ tree = law.one_tree bytes node tree is' is in
-    one_of_modules (λ (f g : SourceFault). f ≡ g) (only_module tree) fault other h (subst (λ (n : Node). IsCauseOf (only_module n) other) same k)
+    one_of_modules (only_module tree) fault other h (subst (λ (n : Node). IsCauseOf (only_module n) other) same k)
 
 pub one_of_texts : ModulesHaveOneAnswer → TextsHaveOneCause
 one_of_texts law bytes (Source fault) (Source other) h k = text_source law bytes fault other h k
@@ -123,24 +124,24 @@ one_of_texts law bytes Memory other h k = tt
 -- ---- a project
 
 project_source : FoldersHaveOneAnswer → RefusalsHaveOneCause → (files : Told) (dir : List ℕ) (objects : List (List ℕ)) (fault other : SourceFault)
-    → IsCauseIn files dir objects (Source fault) → IsCauseIn files dir objects (Source other) → AreOneOrLines fault other
-project_source one law files dir objects fault other (inl h) (inl k) = inl (law files dir objects fault other h k)
-project_source one law files dir objects fault other (inl h) (inr (p, holds, many, file, line, e)) = absurd ((one files dir objects p fault holds).1 h)
-project_source one law files dir objects fault other (inr (p, holds, many, file, line, e)) (inl k) = absurd ((one files dir objects p other holds).1 k)
-project_source one law files dir objects fault other (inr (p, holds, many, file, line, e)) (inr (q, holds', many', file', line', e')) = inr ((file, line, e), (file', line', e'))
+    → IsCauseIn files dir objects (Source fault) → IsCauseIn files dir objects (Source other) → fault ≡ other
+project_source one law files dir objects fault other (inl h) (inl k) = law files dir objects fault other h k
+project_source one law files dir objects fault other (inl h) (inr k) = absurd ((one files dir objects k.0 fault k.1).1 h)
+project_source one law files dir objects fault other (inr h) (inl k) = absurd ((one files dir objects h.0 other h.1).1 k)
+project_source one law files dir objects fault other (inr h) (inr k) = many_source one files dir objects fault other h k
 
 project_taken : FoldersHaveOneAnswer → (files : Told) (dir : List ℕ) (objects : List (List ℕ)) (p : ProjectTrees) (fault : SourceFault) → HoldsProject files dir objects p
     → HaveFewTables p.modules → IsCauseIn files dir objects (Source fault) → ⊥
 project_taken one files dir objects p fault holds few (inl h) = (one files dir objects p fault holds).1 h
-project_taken one files dir objects p fault holds few (inr (q, holds', many, file, line, e)) =
+project_taken one files dir objects p fault holds few (inr (q, holds', m, beyond, line, is, e)) =
     let same : p ≡ q = (one files dir objects p fault holds).0 q holds' in
-    many_or_few q.modules many (subst (λ (x : ProjectTrees). HaveFewTables x.modules) same few)
+    many_or_few q.modules (many_of_beyond q.modules m beyond) (subst (λ (x : ProjectTrees). HaveFewTables x.modules) same few)
 
 project_modules : FoldersHaveOneAnswer → (files : Told) (dir : List ℕ) (objects : List (List ℕ)) (fault other : BuildFault) (told : SourceFault) (p q : ProjectTrees)
-    → HoldsProject files dir objects p → HoldsProject files dir objects q → IsCauseOf p fault → IsCauseOf q other → AreOne AreOneOrLines fault other
+    → HoldsProject files dir objects p → HoldsProject files dir objects q → IsCauseOf p fault → IsCauseOf q other → AreOne fault other
 project_modules one files dir objects fault other told p q holds holds' h k =
     let same : p ≡ q = (one files dir objects p told holds).0 q holds' in
-    one_of_modules AreOneOrLines q fault other (subst (λ (x : ProjectTrees). IsCauseOf x fault) same h) k
+    one_of_modules q fault other (subst (λ (x : ProjectTrees). IsCauseOf x fault) same h) k
 
 pub one_of_projects : FoldersHaveOneAnswer → RefusalsHaveOneCause → ProjectsHaveOneCause
 one_of_projects one law files dir objects (Source fault) (Source other) h k = project_source one law files dir objects fault other h k

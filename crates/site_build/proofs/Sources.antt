@@ -1,5 +1,5 @@
 -- From the files of a project to what its program is held against.
-use Rattle.std.proofs.Common.{ℕ, List, [], ◌∷◌, Option, Some, None, IfSome, Result, Ok, Err, IfErr, IfOk}
+use Rattle.std.proofs.Common.{◌≡◌, ℕ, List, [], ◌∷◌, Option, Some, None, IfSome, Result, Ok, Err, IfErr, IfOk, subst}
 use Rattle.surface_grammar.specs.Refusals.{deepest, Whole}
 use Rattle.surface_grammar.specs.Trees.{Node}
 use Rattle.ur_outside.specs.Files.{Told}
@@ -31,6 +31,11 @@ whole_modules files dir (line ∷ lines) (m ∷ ms) (one, rest) =
 pub where_told : {X : Type 0} (o : Option X) (P Q : X → Type 0) → ((x : X) → P x → Q x) → IfSome o P → IfSome o Q
 where_told None P Q f h = tt
 where_told (Some x) P Q f h = f x h
+
+-- and where they are told twice, the second time the same
+pub where_both : {X : Type 0} (o later : Option X) (P Q R : X → Type 0) → later ≡ o → ((x : X) → P x → Q x → R x) → IfSome o P → IfSome later Q → IfSome o R
+where_both None later P Q R same f h k = tt
+where_both (Some x) later P Q R same f h k = f x h (subst (λ o. IfSome o Q) same k)
 
 -- what holds of a result
 pub where_ok : {X E : Type 0} (r : Result X E) (P Q : X → Type 0) → ((x : X) → P x → Q x) → IfOk r P → IfOk r Q

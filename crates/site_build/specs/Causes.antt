@@ -1,8 +1,10 @@
 -- Why a project isn't built, as its files tell, and why a module alone isn't.
-use Rattle.std.specs.Prelude.{◌≡◌, ℕ, ◌+◌, ◌<◌, ◌≤◌, ◌⊎◌, List, [], ◌∷◌, codes, count_by, string_bytes, Some, None}
+use Rattle.std.specs.Prelude.{◌≡◌, ◌≢◌, ℕ, ◌+◌, ◌<◌, ◌≤◌, ◌⊎◌, List, [], ◌∷◌, ◌++◌, length, All}
+use Rattle.std.specs.Prelude.{codes, count_by, string_bytes, Some, None}
 use Rattle.surface_grammar.specs.Trees.{Node, spell}
 use Rattle.ur_outside.specs.Files.{Told}
 use Rattle.ur_parser.specs.Sources.{module_part}
+use Rattle.project_files.specs.Lines.{Line}
 use Rattle.project_sources.specs.Modules.{ModuleTrees, module_file}
 use Rattle.project_sources.specs.Projects.{HoldsProject, HoldsNoProject, ProjectTrees}
 use Rattle.project_sources.specs.Texts.{HasNoTree, IsModuleTree}
@@ -27,6 +29,30 @@ HaveManyTables ms = most_tables < tables_in ms
 abbrev pub HaveFewTables : List ModuleTrees → Type 0
 HaveFewTables ms = tables_in ms ≤ most_tables
 
+-- The first module with which they are too many: those before it declare not too many, and with it they do.
+pub record IsBeyond (ms : List ModuleTrees) (m : ModuleTrees) : Type 0 where
+  pub before : List ModuleTrees
+  pub after : List ModuleTrees
+  pub modules_are : ms ≡ before ++ m ∷ after
+  pub few : HaveFewTables before
+  pub many : HaveManyTables (before ++ m ∷ [])
+
+-- these lines stand before the first that is this one, and those behind it
+pub record IsFirst (lines before : List Line) (line : Line) (after : List Line) : Type 0 where
+  pub lines_are : lines ≡ before ++ line ∷ after
+  pub first : All (λ other. other ≢ line) before
+
+-- The line of a project file, counted from 1, at which a module stands: behind the first empty line, before which the
+-- directives stand, it is the first that names this module.
+pub record IsLineOf (lines : List Line) (name : Line) (number : ℕ) : Type 0 where
+  pub directives : List Line
+  pub modules : List Line
+  pub empty_line : IsFirst lines directives [] modules
+  pub before : List Line
+  pub after : List Line
+  pub named : IsFirst modules before name after
+  pub number_is : number ≡ length directives + 1 + length before + 1
+
 -- no module has a form that isn't built yet
 abbrev pub AreBuilt : List ModuleTrees → Type 0
 AreBuilt [] = Unit {0}
@@ -48,13 +74,18 @@ IsCauseOf p (Refused file at told) = AreBuilt p.modules × IsRefused p file at (
 IsCauseOf p ReadFault = Unit {0}
 IsCauseOf p Memory = Unit {0}
 
+-- The folder holds a project that declares too many tables. That is told at the line of the project file at which the
+-- first module stands with which they are too many.
+abbrev pub HoldsTooMany : Told → List ℕ → List (List ℕ) → SourceFault → Type 0
+HoldsTooMany files dir objects fault =
+    (p : ProjectTrees) × (holds : HoldsProject files dir objects p) × (m : ModuleTrees) × IsBeyond p.modules m
+    × (line : ℕ) × IsLineOf holds.says.says.lines m.line line × (fault ≡ BadProject holds.says.name line)
+
 -- The sources of a project aren't taken: the folder holds none, for the first thing that stands in the way, or one that
--- declares too many tables, which is told at a line of a project file.
+-- declares too many tables.
 abbrev pub IsCauseOfSources : Told → List ℕ → List (List ℕ) → SourceFault → Type 0
 IsCauseOfSources files dir objects fault =
-    HoldsNoProject files dir objects fault
-    ⊎ (p : ProjectTrees) × HoldsProject files dir objects p × HaveManyTables p.modules
-    × (file : List ℕ) × (line : ℕ) × (fault ≡ BadProject file line)
+    HoldsNoProject files dir objects fault ⊎ HoldsTooMany files dir objects fault
 
 -- the folder holds a project that has not too many tables, and its modules aren't built for this
 abbrev pub IsCauseOfModules : Told → List ℕ → List (List ℕ) → BuildFault → Type 0

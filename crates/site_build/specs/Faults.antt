@@ -1,5 +1,5 @@
 -- What the steps of building tell of a fault.
-use Rattle.std.specs.Prelude.{◌≡◌, ℕ, List, map, string_bytes}
+use Rattle.std.specs.Prelude.{◌≡◌, ℕ, List, length, map, string_bytes}
 use Rattle.con_terms.specs.declared.place.Place.{Place}
 use Rattle.core_terms.specs.Lists.{foreigns_view, rules_view}
 use Rattle.fault_lines.specs.Lines.{IsToldOfElaboration}
@@ -7,13 +7,16 @@ use Rattle.name_scopes.specs.declared.fault.ElabFault.{ElabFault}
 use Rattle.plain_projects.specs.Said.{exported_said, names_said, rules_said, trees_said}
 use Rattle.plain_tree.specs.View.{plain_view}
 use Rattle.program_elaborator.specs.declared.program.Source.{Source as AnySource}
+use Rattle.project_files.specs.Lines.{HasLines, Line}
+use Rattle.project_files.specs.Projects.{Said}
 use Rattle.project_sources.specs.Modules.{ModuleTrees}
-use Rattle.project_sources.specs.Projects.{ProjectTrees}
+use Rattle.project_sources.specs.Projects.{ProjectTrees, SaysProject}
 use Rattle.project_sources.specs.declared.fault.SourceFault.TheVariants.{BadProject}
-use Rattle.site_build.specs.Causes.{IsUnbuiltAt, AreBuilt}
+use Rattle.site_build.specs.Causes.{AreBuilt, IsBeyond, IsFirst, IsLineOf, IsUnbuiltAt}
 use Rattle.site_build.specs.Refusals.{IsAt, IsRefused}
 use Rattle.site_build.specs.declared.fault.BuildFault.{BuildFault}
 use Rattle.site_build.specs.declared.fault.BuildFault.TheVariants.{Source, NotBuilt, Refused, ReadFault, Memory}
+use Rattle.ur_outside.specs.Files.{Told}
 
 -- it is that of the first form that isn't built yet, or want of memory
 abbrev pub IsOfForms : List ModuleTrees → BuildFault → Type 0
@@ -26,6 +29,21 @@ IsOfForms ms Memory = Unit {0}
 -- it is told at a line of a project file
 abbrev pub IsOfTables : BuildFault → Type 0
 IsOfTables fault = (file : List ℕ) × (line : ℕ) × (fault ≡ Source (BadProject file line))
+
+-- it is told at the line of the project file of a folder at which a module stands
+abbrev pub IsAtModule : Told → List ℕ → Line → BuildFault → Type 0
+IsAtModule files dir name fault = (said : Said) (says : SaysProject files dir said)
+    → (line : ℕ) × IsLineOf says.says.lines name line × (fault ≡ Source (BadProject says.name line))
+
+-- the line that a module has is that of the first with which modules declare too many tables
+abbrev pub IsBeyondAt : List ModuleTrees → Line → Type 0
+IsBeyondAt ms line = (m : ModuleTrees) × IsBeyond ms m × (m.line ≡ line)
+
+-- of the lines of these bytes so many stand before the first that is this one, and behind it stand those of the rest
+abbrev pub IsFirstIn : List ℕ → Line → ℕ → List ℕ → Type 0
+IsFirstIn bytes line number rest = (lines : List Line) → HasLines bytes lines
+    → (before : List Line) × (after : List Line) × IsFirst lines before line after × (number ≡ length before)
+    × HasLines rest after
 
 -- reading failed, or memory ran out
 abbrev pub IsOfOutside : BuildFault → Type 0
@@ -51,10 +69,11 @@ IsRefusalAt ms place text (Refused file at told) = IsAt ms place file at × (str
 IsRefusalAt ms place text ReadFault = ⊥
 IsRefusalAt ms place text Memory = ⊥
 
--- inference refuses the modules for this fault
-abbrev pub IsOfElaboration : List ModuleTrees → ElabFault → BuildFault → Type 0
-IsOfElaboration ms refused fault =
-    (place : Place) × (text : List ℕ) × IsToldOfElaboration refused place text × IsRefusalAt ms place text fault
+-- inference refuses the modules for this fault, whose symbols have these texts
+abbrev pub IsOfElaboration : List ModuleTrees → List (List ℕ) → ElabFault → BuildFault → Type 0
+IsOfElaboration ms texts refused fault =
+    (place : Place) × (text : List ℕ) × IsToldOfElaboration texts (names_said ms) refused place text
+    × IsRefusalAt ms place text fault
 
 -- inference or the checker refuses the project's program, or memory ran out
 abbrev pub IsOfProgram : ProjectTrees → BuildFault → Type 0

@@ -25,18 +25,19 @@ abbrev pub IsAt : List ModuleTrees → Place → List ℕ → ℕ → Type 0
 IsAt ms place file at = (m : ModuleTrees) × (slice_get ms place.file ≡ Some m) × (file ≡ module_file m.line)
     × (at ≡ place.at) × (list_any (begins_at at) (spell m.tree) ≡ true)
 
--- Inference refuses the project for a fault that is told so. A name that isn't bound stands at that place and isn't in
--- scope there; of other faults nothing is said of the project.
+-- Inference refuses the project for a fault that is told so, over some texts of its symbols. A name that isn't bound
+-- stands at that place and isn't in scope there; of other faults nothing is said of the project.
 abbrev pub IsUninferred : ProjectTrees → Place → List ℕ → Type 0
-IsUninferred p place told = (fault : ElabFault)
+IsUninferred p place told = (fault : ElabFault) × (texts : List (List ℕ))
     × (is_caused (names_said p.modules) (trees_said p.modules) p.said.effects fault ≡ true)
-    × IsToldOfElaboration fault place told
+    × IsToldOfElaboration texts (names_said p.modules) fault place told
 
 -- The checker refuses a program that is what the project says, for a fault that is told so: a first one in text order
--- of the premises of typing that fail in the program, by the places that the program has.
+-- of the premises of typing that fail in the program, by the places that the program has. That there is no instance or
+-- no folder is told so, of a gap in the program.
 abbrev pub IsUnchecked : ProjectTrees → Place → List ℕ → Type 0
 IsUnchecked p place told = (g : Pg) × IsProgramOf p g
-    × (fault : Fault) × ProgramTells g fault × IsToldOf fault place told
+    × (fault : Fault) × ProgramTells g fault × IsToldOf g fault place told
 
 -- the project's program is refused at a byte of a file, with this told behind it
 abbrev pub IsRefused : ProjectTrees → List ℕ → ℕ → List ℕ → Type 0

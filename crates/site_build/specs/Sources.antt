@@ -4,6 +4,7 @@ use Rattle.surface_grammar.specs.Trees.{Node}
 use Rattle.core_terms.specs.Trees.{Pg}
 use Rattle.core_typing.specs.Accepts.{Accepts}
 use Rattle.inserted_terms.specs.Programs.{InsertsChosen}
+use Rattle.placed_terms.specs.Placed.{are_placed}
 use Rattle.plain_projects.specs.Said.{exported_said, names_said, rules_said, trees_said}
 use Rattle.project_files.specs.Projects.{nothing_said}
 use Rattle.project_sources.specs.Projects.{HoldsProject, ProjectTrees}
@@ -12,12 +13,14 @@ use Rattle.source_terms.specs.Programs.{is_source}
 use Rattle.ur_outside.specs.Files.{Told}
 
 -- The program is what the project says: its modules without sugar, with their names resolved and nothing left out. Each
--- folder and each instance that a call of it inserts is the one that its rules choose.
+-- folder and each instance that a call of it inserts is the one that its rules choose, or a gap where they choose none;
+-- an accepted program has no gap. Its nodes stand where those of the modules do for which they were made.
 pub record IsProgramOf (p : ProjectTrees) (g : Pg) : Type 0 where
   pub says : is_source (names_said p.modules) (trees_said p.modules) (exported_said p.modules)
       (rules_said p.said.rules) p.said.effects g
       ≡ true
   pub inserts : InsertsChosen (names_said p.modules) (trees_said p.modules) g
+  pub placed : are_placed (trees_said p.modules) g ≡ true
 
 -- the program is what the project in a folder says
 abbrev pub IsProgramIn : Told → List ℕ → List (List ℕ) → Pg → Type 0

@@ -46,7 +46,7 @@ pub fn build<T: Terms + Drop, F: Files>(
 {
     let sources = read_sources(alloc, files, dir, objects)?;
     match first_beyond(sources.modules.as_slice()) {
-        Some(module) => Err(too_many_tables(alloc, files, dir, module)?),
+        Some(line) => Err(too_many_tables(alloc, files, dir, line)?),
         None => site_of(alloc, terms, &sources),
     }
 }

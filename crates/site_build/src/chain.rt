@@ -68,7 +68,7 @@ fn unelaborated(
 ) -> Result<BuildFault, AllocError>
     ensures told { IfOk result IsRefusal }
     ensures refused { IfOk result (λ fault. (ms : List ModuleTrees) → ListsModules modules.now ms
-        → IsOfElaboration ms refusal.now.fault fault) }
+        → IsOfElaboration ms refusal.now.names refusal.now.fault fault) }
 {
     let names = names_of(alloc, modules)?;
     let told = told_of_elaboration(alloc, &refusal.names, &names, &refusal.fault)?;

@@ -13,7 +13,8 @@ pub fn texts_have_one_cause()
     modules_have_one_answer();
 }
 
-/// A project isn't built for one cause at most, save that the line of too many tables isn't said.
+/// A project isn't built for one cause at most. So each line of such a refusal, too many tables' among them, comes
+/// exactly by its cause, but for what inference or the checker refuse.
 pub fn projects_have_one_cause()
     ensures { ProjectsHaveOneCause }
 {

@@ -18,8 +18,6 @@ pub mod Homes
 pub mod Leaving
 -- Lists of parts are read where lengths agree and each part is read (for `are_branches`, `are_fields` and others).
 pub mod Listed
--- A name with its term by its parts (no function uses it).
-pub mod Naming
 -- A term of the program, and its form, as trees (for `standing`, `is_let`, `left_of_infix` and others).
 pub mod Nodes
 -- Two lists whose elements are compared one by one (for `are_branches`, `are_fields`, `are_names` and others).
@@ -36,8 +34,6 @@ pub mod Sources
 pub mod Steps
 -- The tables of a program, as they are seen (for `is_source`).
 pub mod Tables
--- The last of the tasks that wait, taken from the others (no function uses it).
-pub mod Taking
 -- Tasks one after another, and parts beside what is left to compare (for `ask`, `are_done`, `is_applied`).
 pub mod Tasking
 -- The items of a call, and the declarations of a let, one after another (for `are_items`, `are_locals`, `is_chain`).

@@ -1,20 +1,19 @@
 //! The recursion: a term and the parts that it asks for.
 //!
 //! Each form has a loop of its own, so that no function has to know the states of all forms.
-use crate::begun::around;
 use call_forms::{CallAfter, calls, of_call, of_name, run, settle};
 use chain_forms::{ChainAfter, chains, of_chain};
 use con_terms::Con;
 use name_scopes::ElabFault;
-use open_terms::{Core, Env, Outcome, Pending, Typed, Want, boxed_copy, number, words};
+use open_terms::{Core, Env, Outcome, Pending, Typed, Want};
 use page_forms::{PageAfter, literals, of_page, of_xml};
 use plain_forms::{
-    FrameAfter, LetAfter, frames, lets, of_case, of_fn, of_fn_rest, of_let, of_typed,
+    FrameAfter, LetAfter, frames, lets, of_case, of_fn, of_fn_rest, of_let, of_typed, reopened,
 };
 use plain_tree::{Exp, Form};
 use record_forms::{RecordAfter, of_record, of_record_rest, records};
 use std::alloc::Global;
-use term_parts::{Asked, Part, Progress, Sought, settled, term};
+use term_parts::{Asked, Part, Progress, Sought, innermost, leaf, settled, too_deep, wanted_term};
 
 /// A term of the source as a term of the explicit language, with its type. It and what it is built of nest at most
 /// `room` deep; what would nest deeper counts as want of memory.
@@ -25,12 +24,7 @@ pub fn elaborate_term(
     e: &Exp,
     room: u32,
 ) -> Result<Box<Typed>, ElabFault> {
-    let want = match wanted {
-        None => Want::Choose,
-        Some(c) => Want::Whole(boxed_copy(alloc, c)?),
-    };
-    let part = term(alloc, env, want, e)?;
-    settled(elab(alloc, part, room)?)
+    settled(elab(alloc, wanted_term(alloc, env, wanted, e)?, room)?)
 }
 
 /// A part, as far as it can be elaborated where this is known of its type. Each part that it asks for has fewer
@@ -53,7 +47,7 @@ fn below<'a>(
     room: u32,
 ) -> Result<Outcome<'a>, ElabFault> {
     if level >= room {
-        return Err(ElabFault::Memory);
+        return too_deep(part);
     }
     elab(alloc, part, level)
 }
@@ -66,12 +60,11 @@ fn of_term<'a>(
     room: u32,
 ) -> Result<Outcome<'a>, ElabFault> {
     if room == 0 {
-        return Err(ElabFault::Memory);
+        return too_deep(Part::Term(sought));
     }
     let source = sought.source;
     match &source.form {
-        Form::Int(digits) => Ok(number(alloc, sought.place(), *digits)?),
-        Form::Words(text) => Ok(words(alloc, sought.place(), text)?),
+        Form::Int(_) | Form::Words(_) | Form::Sql(_, _) => leaf(alloc, sought),
         Form::Name(_, _) | Form::Builder(_, _) | Form::Basis(_) => {
             call_to_end(alloc, of_name(alloc, sought, room)?, room)
         }
@@ -99,7 +92,6 @@ fn of_term<'a>(
             chain_to_end(alloc, of_chain(alloc, sought, first, links, room)?, room)
         }
         Form::Xml(nodes) => page_to_end(alloc, of_xml(alloc, sought, nodes, room)?, room),
-        Form::Sql(_, _) => Err(ElabFault::NotBuilt(sought.place())),
     }
 }
 
@@ -112,10 +104,9 @@ fn of_open<'a>(
     room: u32,
 ) -> Result<Outcome<'a>, ElabFault> {
     if pending.frames.is_empty() {
-        let Pending { frames: _, core } = Box::into_inner(pending);
-        return of_core(alloc, core, want, room);
+        return of_core(alloc, innermost(pending), want, room);
     }
-    frame_to_end(alloc, around(alloc, pending, want, room)?, room)
+    frame_to_end(alloc, reopened(alloc, pending, want, room)?, room)
 }
 
 /// A part that was open, of which this is wanted now.
@@ -130,7 +121,7 @@ fn of_core<'a>(
         Core::Fn(rest) => frame_to_end(alloc, of_fn_rest(alloc, rest, want, room)?, room),
         Core::Call(call) => call_to_end(alloc, settle(alloc, call, want, room)?, room),
         Core::Rec(rest) => record_to_end(alloc, of_record_rest(alloc, rest, want, room)?, room),
-        Core::Page(rest) => page_to_end(alloc, of_page(alloc, rest, &want, room)?, room),
+        Core::Page(rest) => page_to_end(alloc, of_page(alloc, rest, want, room)?, room),
     }
 }
 
@@ -148,12 +139,11 @@ fn call_to_end<'a>(
             Progress::Ended(outcome) => return Ok(outcome),
             Progress::Asks(asked) => {
                 let Asked { after, part, level } = Box::into_inner(asked);
-                let outcome = below(alloc, part, level, room)?;
-                progress = calls::go_on(alloc, after, outcome, room)?;
+                progress = calls::go_on(alloc, after, below(alloc, part, level, room), room)?;
             }
         }
     }
-    Err(ElabFault::Memory)
+    Err(calls::endless(progress))
 }
 
 /// What stands inside of frames, the body of a function too, to its end.
@@ -170,12 +160,11 @@ fn frame_to_end<'a>(
             Progress::Ended(outcome) => return Ok(outcome),
             Progress::Asks(asked) => {
                 let Asked { after, part, level } = Box::into_inner(asked);
-                let outcome = below(alloc, part, level, room)?;
-                progress = frames::go_on(alloc, after, outcome, room)?;
+                progress = frames::go_on(alloc, after, below(alloc, part, level, room), room)?;
             }
         }
     }
-    Err(ElabFault::Memory)
+    Err(frames::endless(progress))
 }
 
 /// A `let`, or a term with its type, to its end.
@@ -192,12 +181,11 @@ fn let_to_end<'a>(
             Progress::Ended(outcome) => return Ok(outcome),
             Progress::Asks(asked) => {
                 let Asked { after, part, level } = Box::into_inner(asked);
-                let outcome = below(alloc, part, level, room)?;
-                progress = lets::go_on(alloc, after, outcome, room)?;
+                progress = lets::go_on(alloc, after, below(alloc, part, level, room), room)?;
             }
         }
     }
-    Err(ElabFault::Memory)
+    Err(lets::endless(progress))
 }
 
 /// A record to its end.
@@ -214,12 +202,11 @@ fn record_to_end<'a>(
             Progress::Ended(outcome) => return Ok(outcome),
             Progress::Asks(asked) => {
                 let Asked { after, part, level } = Box::into_inner(asked);
-                let outcome = below(alloc, part, level, room)?;
-                progress = records::go_on(alloc, after, outcome, room)?;
+                progress = records::go_on(alloc, after, below(alloc, part, level, room), room)?;
             }
         }
     }
-    Err(ElabFault::Memory)
+    Err(records::endless(progress))
 }
 
 /// A chain to its end.
@@ -236,12 +223,11 @@ fn chain_to_end<'a>(
             Progress::Ended(outcome) => return Ok(outcome),
             Progress::Asks(asked) => {
                 let Asked { after, part, level } = Box::into_inner(asked);
-                let outcome = below(alloc, part, level, room)?;
-                progress = chains::go_on(alloc, after, outcome, room)?;
+                progress = chains::go_on(alloc, after, below(alloc, part, level, room), room)?;
             }
         }
     }
-    Err(ElabFault::Memory)
+    Err(chains::endless(progress))
 }
 
 /// A literal of pages to its end.
@@ -258,10 +244,9 @@ fn page_to_end<'a>(
             Progress::Ended(outcome) => return Ok(outcome),
             Progress::Asks(asked) => {
                 let Asked { after, part, level } = Box::into_inner(asked);
-                let outcome = below(alloc, part, level, room)?;
-                progress = literals::go_on(alloc, after, outcome, room)?;
+                progress = literals::go_on(alloc, after, below(alloc, part, level, room), room)?;
             }
         }
     }
-    Err(ElabFault::Memory)
+    Err(literals::endless(progress))
 }

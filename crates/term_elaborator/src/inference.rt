@@ -5,7 +5,7 @@ use name_scopes::ElabFault;
 use open_terms::Typed;
 use program_elaborator::{Env, Terms, TypedTerm};
 use std::alloc::{AllocError, Global};
-use term_parts::signature_of;
+use term_parts::signature_within;
 
 /// The inference of terms.
 #[derive(Drop)]
@@ -27,8 +27,7 @@ fn typed_term(
     e: &plain_tree::Exp,
     room: u32,
 ) -> Result<TypedTerm, ElabFault> {
-    let env = seen(env)?;
-    let Typed { exp, con } = Box::into_inner(elaborate_term(alloc, env, wanted, e, room)?);
+    let Typed { exp, con } = Box::into_inner(elaborate_term(alloc, seen(env)?, wanted, e, room)?);
     Ok(TypedTerm { exp, con })
 }
 
@@ -39,8 +38,7 @@ fn written_signature(
     e: &plain_tree::Exp,
     room: u32,
 ) -> Result<Option<Con>, ElabFault> {
-    let env = seen(env)?;
-    signature_of(alloc, &env, e, room)
+    signature_within(alloc, seen(env)?, e, room)
 }
 
 impl Terms for Inferred {

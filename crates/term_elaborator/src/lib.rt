@@ -8,7 +8,6 @@
 //! is there. Only the loops of `elab` call themselves, one for each form.
 #![tactic(auto)]
 
-mod begun;
 pub mod elab;
 pub mod inference;
 

@@ -14,5 +14,8 @@ pub use binders::{
 };
 pub use parameters::{Entered, enter, want_inside};
 pub use patterns::{pattern, with_bound};
-pub use progress::{Asked, Becomes, Part, Progress, Sought, ask, below, raised, settled, term};
-pub use signatures::signature_of;
+pub use progress::{
+    Asked, Becomes, Part, Progress, Sought, ask, below, innermost, leaf, raised, settled, term,
+    too_deep, wanted_term,
+};
+pub use signatures::{signature_of, signature_within};

@@ -1,8 +1,10 @@
 //! How far a term is: it ended, or it asks for a part before it goes on.
-use con_terms::Place;
+use con_terms::{Con, Place};
 use name_scopes::ElabFault;
-use open_terms::{Call, Env, Outcome, Pending, Typed, Want, on_heap, open_place};
-use plain_tree::Exp;
+use open_terms::{
+    Call, Core, Env, Outcome, Pending, Typed, Want, boxed_copy, number, on_heap, open_place, words,
+};
+use plain_tree::{Exp, Form};
 use std::alloc::{AllocError, Global};
 
 /// A term where it stands, and what is wanted of it.
@@ -84,6 +86,41 @@ pub fn term<'a>(
     source: &'a Exp,
 ) -> Result<Part<'a>, AllocError> {
     Ok(Part::Term(on_heap(alloc, Sought { env, want, source })?))
+}
+
+/// A term as a part, of which this type is wanted, or any.
+pub fn wanted_term<'a>(
+    alloc: Global,
+    env: Env,
+    wanted: Option<&Con>,
+    source: &'a Exp,
+) -> Result<Part<'a>, ElabFault> {
+    let want = match wanted {
+        None => Want::Choose,
+        Some(c) => Want::Whole(boxed_copy(alloc, c)?),
+    };
+    Ok(term(alloc, env, want, source)?)
+}
+
+/// A number or a text. For any other form that asks for no part there are no rules yet.
+pub fn leaf<'a>(alloc: Global, sought: Box<Sought<'a>>) -> Result<Outcome<'a>, ElabFault> {
+    let source = sought.source;
+    match &source.form {
+        Form::Int(digits) => number(alloc, sought.place(), *digits),
+        Form::Words(text) => words(alloc, sought.place(), text),
+        _ => Err(ElabFault::NotBuilt(sought.place())),
+    }
+}
+
+/// The part of a term that is open, where nothing stands around it.
+pub fn innermost<'a>(pending: Box<Pending<'a>>) -> Core<'a> {
+    let Pending { frames: _, core } = Box::into_inner(pending);
+    core
+}
+
+/// A part that nests too deep, which counts as want of memory. It is let go here, and not by the caller.
+pub fn too_deep<'a>(_part: Part<'a>) -> Result<Outcome<'a>, ElabFault> {
+    Err(ElabFault::Memory)
 }
 
 /// One level less. Where none is left, no part is elaborated.

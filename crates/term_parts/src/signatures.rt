@@ -119,3 +119,13 @@ pub fn signature_of(
         _ => Ok(None),
     }
 }
+
+/// The type of a term as far as it is written, in a scope that ends with it.
+pub fn signature_within(
+    alloc: Global,
+    env: Env,
+    e: &Exp,
+    room: u32,
+) -> Result<Option<Con>, ElabFault> {
+    signature_of(alloc, &env, e, room)
+}

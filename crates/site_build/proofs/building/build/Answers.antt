@@ -6,11 +6,11 @@ use Rattle.project_sources.specs.Projects.{IsCause, ProjectTrees}
 use Rattle.project_sources.specs.View.{IsProject, ListsModules, ListsProject}
 use Rattle.project_sources.specs.declared.modules.ModuleSource.{ModuleSource}
 use Rattle.site_build.specs.Causes.{IsCauseIn}
-use Rattle.site_build.specs.Faults.{IsOfModules}
+use Rattle.site_build.specs.Faults.{IsAtModule, IsOfModules}
 use Rattle.site_build.specs.Lines.{of_source}
 use Rattle.site_build.specs.Sources.{IsProgramIn, IsProgramOf}
-use Rattle.site_build.proofs.Causes.{modules_in, unread_in}
-use Rattle.site_build.proofs.Sources.{where_err, where_ok, where_told, whole_modules}
+use Rattle.site_build.proofs.Causes.{modules_in, tables_in_project, unread_in}
+use Rattle.site_build.proofs.Sources.{where_both, where_err, where_ok, where_told, whole_modules}
 use Rattle.site_build.proofs.building.build.Goals as goal
 
 pub returns-clause-source : goal.returns-clause-source
@@ -52,3 +52,19 @@ returns-clause-refused g c =
     (given q.0 q.2 (whole_modules files dir q.0.said.modules q.0.modules q.1.modules)))
     c.in_ok-sources.ensures.whole)
     c.site_of.ensures.refused
+
+pub returns-in-Some-clause-refused : goal.returns-in-Some-clause-refused
+returns-in-Some-clause-refused g c =
+    let told = g.F.Files.told c.args.files.now in
+    let dir = c.args.dir.now in
+    let objects = c.args.objects.now in
+    let sources = c.in_ok-sources.sources in
+    let name = c.in-Some.line.now in
+    let fault = c.in_ok-too_many_tables-in-Some.field-0 in
+    where_both told (g.F.Files.told c.read_sources.new.files) (λ files. IsProject files dir objects sources) (λ files. IsAtModule files dir name fault)
+    (λ files. IsCauseIn files dir objects fault) c.read_sources.ensures.kept
+    (λ files q at.
+    let modules : ListsModules c.as_slice.result.now q.0.modules =
+    subst (λ (l : List ModuleSource). ListsModules l q.0.modules) (sym c.as_slice.ensures.value) q.2.modules in
+    tables_in_project files dir objects q.0 name fault q.1 (c.in-Some.ensures.beyond q.0.modules modules) at)
+    c.in_ok-sources.ensures.whole c.in_ok-too_many_tables-in-Some.ensures.line

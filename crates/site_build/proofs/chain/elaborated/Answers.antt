@@ -8,5 +8,5 @@ pub returns-in_ok-unelaborated-in-Err-clause-refused : goal.returns-in_ok-unelab
 returns-in_ok-unelaborated-in-Err-clause-refused g c p lists whole =
     let modules : ListsModules c.as_slice.result.now p.modules =
     subst (λ (l : List ModuleSource). ListsModules l p.modules) (sym c.as_slice.ensures.value) lists.modules in
-    uninferred p c.in_ok-source.source (c.in_ok-source.ensures p lists whole) c.in-Err.refusal.fault c.in-Err.ensures.cause
+    uninferred p c.in_ok-source.source (c.in_ok-source.ensures p lists whole) c.in-Err.refusal.names c.in-Err.refusal.fault c.in-Err.ensures.cause
     c.in_ok-unelaborated-in-Err.field-0 (c.in_ok-unelaborated-in-Err.ensures.refused p.modules modules)

@@ -1,0 +1,4 @@
+pub mod Bridges
+pub mod Calls
+pub mod Listing
+pub mod Modules
