@@ -123,7 +123,8 @@ ESCAPES = {"n": "\n", "r": "\r", "t": "\t", "0": "\0"}
 
 def literal(token):
     """The text of a literal, or None where a token is none."""
-    return re.sub(r"\\(.)", lambda it: ESCAPES.get(it[1], it[1]), token[1:-1]) if token[0] == '"' else None
+    joined = re.sub(r"\\\n\s*", "", token)
+    return re.sub(r"\\(.)", lambda it: ESCAPES.get(it[1], it[1]), joined[1:-1]) if token[0] == '"' else None
 
 
 def is_said(tokens, at):

@@ -124,5 +124,8 @@ pub(crate) fn is_return_unfinished(rest: &str) -> bool {
 /// Whether a line is indented and begins as an action does.
 pub(crate) fn begins_action(line: &str) -> bool {
     let word = word_of(line.trim_start());
-    line.starts_with(' ') && !word.is_empty() && !is_middle(word) && word != "end"
+    line.starts_with(|c: char| c == ' ' || c == '\t')
+        && !word.is_empty()
+        && !is_middle(word)
+        && word != "end"
 }

@@ -5,12 +5,39 @@ use crate::units::{Use, behind_atom, is_projected, use_of};
 
 /// What is likely meant, behind a colon, or nothing.
 pub(crate) fn hint(wanted: &str, found: &str, spot: &Spot<'_>) -> &'static str {
+    if takes_type(found) && !takes_type(wanted) {
+        return ": it takes a type first, which stands behind it as [int], or as [_] where the rest tells it";
+    }
     match wanted {
         "( ) -> ( )" => hint_of_call(found, spot),
         "$ [ ]" => hint_of_record(found, spot),
         "url" if found == "string" => ": bless makes a url of a string",
         "string" if found == "int" || found == "bool" => ": show makes a string of a value",
+        _ if is_of_form(wanted) && found.starts_with("xml ") && !is_of_form(found) =>
+            ": what stands in a form takes any r, as in fun part [r ::: {Type}] () : xml [Body, Form] r []",
+        _ if is_several(wanted, found, spot) => ": arguments stand one behind another, as in f 1 2",
         _ => hint_of_action(wanted, found, spot.rest),
+    }
+}
+
+/// Whether a type is that of markup within a form.
+fn is_of_form(words: &str) -> bool {
+    words.starts_with("xml [ Body , Form ]") || words.starts_with("xml [ Form , ")
+}
+
+/// Whether several arguments may be meant by a pair, or a longer tuple, that stands behind a function.
+fn is_several(wanted: &str, found: &str, spot: &Spot<'_>) -> bool {
+    found.starts_with("$ [ 1 = ")
+        && !wanted.starts_with('$')
+        && spot.rest.starts_with('(')
+        && ends_operand(spot.before)
+}
+
+/// Whether a type is that of functions that take a type first, which each call names.
+fn takes_type(words: &str) -> bool {
+    match words.split_once(" :: ") {
+        Some((name, _)) => !name.is_empty() && word_of(name).len() == name.len(),
+        None => false,
     }
 }
 

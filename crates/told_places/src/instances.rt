@@ -1,5 +1,5 @@
 //! The sentences on operations that no value in scope tells how to do.
-use crate::spot::{Spot, is_word_part, said, word_of};
+use crate::spot::{Spot, declaration_of, is_word_part, said, word_of};
 use std::alloc::{AllocError, Global};
 
 /// The operators on values with instances but `+`, the longer ones first.
@@ -17,6 +17,12 @@ pub(crate) fn instance_sentence(alloc: Global, spot: &Spot<'_>) -> Result<String
     let behind = behind_operand(spot.rest);
     if behind.starts_with('+') {
         return said(alloc, &[of_plus(spot.rest)]);
+    }
+    if is_negative(spot.rest, behind) {
+        return said(
+            alloc,
+            &["- reckons with numbers, and a negative argument stands in brackets, as in f (-1)"],
+        );
     }
     of_operator(alloc, operator_of(behind))
 }
@@ -87,11 +93,21 @@ fn operator_of(text: &str) -> &'static str {
     ""
 }
 
-/// What stands behind the names, numbers, strings and brackets with which a text begins.
+/// Whether a text goes on with a `-` that has a blank before it, and none behind it.
+fn is_negative(rest: &str, behind: &str) -> bool {
+    let front = rest.strip_suffix(behind).unwrap_or("");
+    front.ends_with(|c: char| c.is_whitespace())
+        && behind.starts_with('-')
+        && !behind.starts_with("- ")
+}
+
+/// What stands behind the names, numbers, strings and brackets with which a text begins, in the same declaration.
 fn behind_operand(rest: &str) -> &str {
     let mut depth = 0_usize;
     let mut in_string = false;
-    for (at, character) in rest.char_indices() {
+    let mut last = ' ';
+    for (at, character) in declaration_of(rest).char_indices() {
+        let here = rest.get(at..).unwrap_or("");
         if in_string || character == '"' {
             in_string = in_string != (character == '"');
         } else if opens(character) {
@@ -101,11 +117,23 @@ fn behind_operand(rest: &str) -> &str {
                 return "";
             }
             depth -= 1;
-        } else if depth == 0 && !is_of_operand(character) {
-            return rest.get(at..).unwrap_or("");
+        } else if depth == 0 && (!is_of_operand(character) || ends_term(last, here)) {
+            return here;
         }
+        last = character;
     }
     ""
+}
+
+/// Whether a word with which a term is at its end begins here, behind this character.
+fn ends_term(last: char, here: &str) -> bool {
+    if is_word_part(last) {
+        return false;
+    }
+    match word_of(here) {
+        "val" | "fun" | "and" | "then" | "else" | "of" | "in" | "end" => true,
+        _ => false,
+    }
 }
 
 /// Whether a character opens a bracket.

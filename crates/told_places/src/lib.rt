@@ -6,6 +6,7 @@ mod hints;
 mod instances;
 mod missing;
 mod names;
+mod patterns;
 pub mod piece;
 pub mod place;
 mod project;

@@ -1,7 +1,10 @@
 //! The sentences on what nothing tells: a type, a branch.
 use crate::actions::is_return_unfinished;
 use crate::scan::{Form, innermost};
-use crate::spot::{Spot, begins_with_small, declaration_of, is_word_part, said, tag_of, word_of};
+use crate::spot::{
+    Spot, begins_with_small, behind_word, declaration_of, is_declaration_word, is_word_part, said,
+    tag_of, word_of,
+};
 use std::alloc::{AllocError, Global};
 
 /// What is told of a shape that no branch takes.
@@ -116,7 +119,15 @@ pub(crate) fn unsolved(alloc: Global, spot: &Spot<'_>) -> Result<String, AllocEr
             &["nothing here tells the type of this parameter: write it, as in (x : int)"],
         );
     }
-    if begins_with_small(name) {
+    if name == "return" {
+        return said(
+            alloc,
+            &[
+                "nothing here tells the type: has this return more than one value behind it, or none?",
+            ],
+        );
+    }
+    if begins_with_small(name) && is_declared(spot, name) {
         return said(
             alloc,
             &[
@@ -132,6 +143,23 @@ pub(crate) fn unsolved(alloc: Global, spot: &Spot<'_>) -> Result<String, AllocEr
     )
 }
 
+/// Whether a line of the module declares something of this name.
+fn is_declared(spot: &Spot<'_>, name: &str) -> bool {
+    spot.before
+        .lines()
+        .any(|line| declares(line.trim_start(), name))
+        || spot
+            .rest
+            .lines()
+            .any(|line| declares(line.trim_start(), name))
+}
+
+/// Whether a line begins with a word that declares this name.
+fn declares(line: &str, name: &str) -> bool {
+    let word = word_of(line);
+    (word == "and" || is_declaration_word(word)) && word_of(behind_word(line)) == name
+}
+
 /// Whether an element is an input, which names its field in braces.
 fn is_input(name: &str) -> bool {
     match name {
@@ -145,9 +173,21 @@ fn is_parameter(alloc: Global, spot: &Spot<'_>) -> Result<bool, AllocError> {
     if spot.rest.starts_with('_') {
         return Ok(false);
     }
-    if let Some(before) = spot.before.trim_end().strip_suffix("fn") {
-        return Ok(!before.ends_with(|c: char| is_word_part(c)));
+    if is_behind_fn(spot.before) {
+        return Ok(true);
     }
     let open = innermost(alloc, spot.before)?;
     Ok(open.form == Form::Head)
+}
+
+/// Whether a parameter may follow where a text ends, behind a `fn` and other parameters of it.
+fn is_behind_fn(before: &str) -> bool {
+    match before.rsplit_once("fn") {
+        Some((front, heads)) => !front.ends_with(|c: char| is_word_part(c))
+            && heads.starts_with(|c: char| c.is_whitespace())
+            && !heads.contains("=>")
+            && !heads.contains("*)")
+            && !heads.contains('"'),
+        None => false,
+    }
 }

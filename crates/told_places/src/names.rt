@@ -39,6 +39,8 @@ fn remedy(name: &str, spot: &Spot<'_>, form: Form) -> &'static str {
         "true" => ": write True, with a capital",
         "false" => ": write False, with a capital",
         "null" | "nil" => ": None is the option without a value, and [] the empty list",
+        _ if name.contains('.') =>
+            ": a module stands behind those that it uses in the project file, and there is no library",
         _ if is_field(spot, form) => ": fields begin with a capital letter",
         _ if is_field_behind_semicolon(name, spot, form) =>
             ": between two fields stands a comma, and no ;",

@@ -66,16 +66,16 @@ fn of_module(before: &str, line: &str) -> Told {
     if name.len() < line.len() {
         return Told {
             at: name.len(),
-            sentence: "a space stands at the end of this line: take it away",
+            sentence: "a blank stands at the end of this line: take it away",
         };
     }
     at_start(of_module_name(before, line))
 }
 
-/// A line behind the empty line, without a space at its end.
+/// A line behind the empty line, without a blank at its end.
 fn of_module_name(before: &str, line: &str) -> &'static str {
     if line.trim_start().len() < line.len() {
-        "a space stands before this name: take it away"
+        "a blank stands before this name: take it away"
     } else if line.contains(' ') && is_directive(word_of(line)) {
         "directives stand before the first empty line, and behind it the names of the modules alone"
     } else if line.ends_with(".ur") || line.ends_with(".urs") {
@@ -118,12 +118,12 @@ fn is_setting(word: &str) -> bool {
 fn of_directive(line: &str) -> Told {
     let front = line.trim_end();
     if front.is_empty() {
-        return at_start("spaces stand in this line: the line before the modules is empty");
+        return at_start("blanks stand in this line: the line before the modules is empty");
     }
     if front.len() < line.len() && is_named(word_of(line)) {
         return Told {
             at: front.len(),
-            sentence: "a space stands at the end of this line: take it away",
+            sentence: "a blank stands at the end of this line: take it away",
         };
     }
     at_start(of_directive_words(line))
@@ -140,7 +140,7 @@ fn of_directive_words(line: &str) -> &'static str {
         return "the file begins with a byte order mark: save it as UTF-8 without one";
     }
     if line.trim_start().len() < line.len() {
-        return "a space stands before this directive: take it away";
+        return "a blank stands before this directive: take it away";
     }
     match word_of(line) {
         "allow" | "deny" =>

@@ -1,7 +1,7 @@
 //! The sentences on names that can't be names where they stand.
 use crate::scan::Form;
 use crate::spot::{
-    Spot, begins_with_capital, begins_with_small, behind_word, declaration_of, is_declaration_word,
+    Spot, begins_with_capital, begins_with_small, behind_word, in_datatype, is_declaration_word,
     is_word_part, last_line, last_word, said, word_of,
 };
 use std::alloc::{AllocError, Global};
@@ -170,11 +170,7 @@ fn is_parameter(spot: &Spot<'_>) -> bool {
 /// Whether a text ends where a constructor of a datatype has to follow.
 fn awaits_constructor(before: &str) -> bool {
     let front = before.trim_end();
-    match before.rsplit_once("datatype ") {
-        Some((_, tail)) if declaration_of(tail).len() == tail.len() => front.ends_with('=')
-            || front.ends_with('|'),
-        _ => false,
-    }
+    in_datatype(before) && (front.ends_with('=') || front.ends_with('|'))
 }
 
 /// Whether a word is reserved.

@@ -6,6 +6,7 @@ use crate::scan::{Form, innermost};
 use crate::spot::{Spot, begins_with_capital, behind_word, said, tag_of, word_of};
 use crate::syntax::{lacking, syntax_sentence};
 use crate::types::{kind_mismatch, mismatch};
+use crate::written::SENTENCE_OF_COMMENT;
 use std::alloc::{AllocError, Global};
 
 /// A refusal in plain words. `told` is its name with the words that follow it, and `spot` its place.
@@ -37,18 +38,38 @@ fn sentence_with_name(
     spot: &Spot<'_>,
 ) -> Result<String, AllocError> {
     match name {
-        "NotDisjoint" => {
-            said(
-                alloc,
-                &[
-                    "these may be one field: ",
-                    words,
-                    ": rows that are put together may share none",
-                ],
-            )
-        }
+        "NotDisjoint" => not_disjoint(alloc, words, spot.rest),
         _ => said(alloc, &[plain_sentence(name, spot)]),
     }
+}
+
+/// Two fields that may be one, or are.
+fn not_disjoint(alloc: Global, words: &str, rest: &str) -> Result<String, AllocError> {
+    match words.split_once(' ') {
+        Some((one, other)) if one == other && one.starts_with('#') => doubled(
+            alloc,
+            one.strip_prefix('#').unwrap_or(one),
+            rest.lines().next().unwrap_or(""),
+        ),
+        _ => said(
+            alloc,
+            &[
+                "these may be one field: ",
+                words,
+                ": rows that are put together may share none",
+            ],
+        ),
+    }
+}
+
+/// A field that stands twice, where this line begins.
+fn doubled(alloc: Global, field: &str, line: &str) -> Result<String, AllocError> {
+    let remedy = if line.contains("++") {
+        ": r -- #A ++ {A = 1} replaces the field A of r"
+    } else {
+        ": rows that are put together may share none"
+    };
+    said(alloc, &["the field ", field, " stands twice here", remedy])
 }
 
 /// A refusal that names nothing.
@@ -103,8 +124,10 @@ fn too_deep(spot: &Spot<'_>) -> &'static str {
 fn no_call(rest: &str) -> &'static str {
     if tag_of(rest) == "submit" {
         "a submit has an action, as in action={save}, where save is a top-level function that takes the form's fields"
+    } else if word_of(rest) == "action" {
+        "an action is a call of a top-level function, with its arguments but for the last, the form's record"
     } else {
-        "a link or an action is a call of a top-level function, with its arguments"
+        "a link is a call of a top-level function, with its arguments"
     }
 }
 
@@ -113,7 +136,7 @@ fn not_serialisable(rest: &str) -> &'static str {
     if word_of(rest) == "action" {
         "an action takes just the form's fields, and values that travel: int, string, bool, datatypes .."
     } else {
-        "this can't travel in an address: int, string, bool, unit, records and datatypes can"
+        "this can't travel in an address: int, string, bool, unit, lists, options, records and datatypes can"
     }
 }
 
@@ -174,15 +197,47 @@ fn plain_character(spot: &Spot<'_>, form: Form) -> &'static str {
     } else if spot.rest.starts_with('&') && form != Form::Element {
         "a & alone is no sign: texts are joined by ^, and conditions by &&"
     } else if spot.rest.starts_with('&') {
-        "no character has this name (a plain & is &amp;): there are &lt; &gt; &amp; &quot; &nbsp; and numbers, as &#169;"
+        "no character has this name (a plain & is &amp;): there are &lt; &gt; &amp; &quot; &nbsp; \
+         and numbers, as &#169;"
+    } else if spot.rest.starts_with("<!--") {
+        SENTENCE_OF_COMMENT
     } else if spot.rest.starts_with('<') {
         "no tag begins like this: write &lt; where a plain < is meant"
     } else if spot.rest.starts_with('\\') {
         backslash(form)
     } else if spot.rest.starts_with('\'') {
+        quote(spot.before.trim_end())
+    } else {
+        unread(spot.rest)
+    }
+}
+
+/// A quote that nothing begins with, behind this text.
+fn quote(before: &str) -> &'static str {
+    if before.ends_with(':') && !before.ends_with("::") || before.ends_with("->") {
+        "a type that a function takes has no quote: it is written [a ::: Type] behind the function's name"
+    } else {
         "nothing begins with this quote: a string stands in double quotes"
+    }
+}
+
+/// A character that nothing begins with.
+fn unread(rest: &str) -> &'static str {
+    if rest.starts_with('\u{a0}') {
+        "U+00A0, a no-break space, stands here: write a plain space"
+    } else if rest.starts_with(|c: char| is_unseen(c)) {
+        "a character that can't be seen stands here: take it away"
     } else {
         "no word, number, string or sign begins like this"
+    }
+}
+
+/// Whether a character can't be seen and takes no room.
+fn is_unseen(character: char) -> bool {
+    match character {
+        '\u{ad}' | '\u{200b}' | '\u{200c}' | '\u{200d}' => true,
+        '\u{200e}' | '\u{200f}' | '\u{2060}' | '\u{feff}' => true,
+        _ => character.is_control(),
     }
 }
 

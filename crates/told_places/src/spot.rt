@@ -85,6 +85,14 @@ pub(crate) fn declaration_of(rest: &str) -> &str {
     rest
 }
 
+/// Whether a text ends in the declaration of a datatype.
+pub(crate) fn in_datatype(before: &str) -> bool {
+    match before.rsplit_once("datatype ") {
+        Some((_, tail)) => declaration_of(tail).len() == tail.len(),
+        None => false,
+    }
+}
+
 /// Whether a place stands at the start of a line.
 pub(crate) fn begins_line(before: &str) -> bool {
     before.is_empty() || before.ends_with('\n')

@@ -4,7 +4,9 @@ use crate::place::place_of;
 use crate::reserved::no_name;
 use crate::scan::{Form, Open, innermost};
 use crate::spot::{Spot, begins_line, is_declaration_word, said, tag_of, word_of};
-use crate::written::{of_head, other_code, other_sign};
+use crate::written::{
+    is_colon, is_typed, is_unclosed, of_head, of_type_parameter, other_code, other_sign,
+};
 use std::alloc::{AllocError, Global};
 
 /// What is told of a place that no module has.
@@ -30,10 +32,43 @@ pub(crate) fn syntax_sentence(alloc: Global, spot: &Spot<'_>) -> Result<String, 
 /// What is told of a place in an open form.
 fn of_form(alloc: Global, spot: &Spot<'_>, open: Open) -> Result<String, AllocError> {
     let text = spot.before.get(open.from..).unwrap_or("");
+    let outer = innermost(alloc, spot.before.get(..open.from).unwrap_or(""))?;
+    let around = of_outer(spot, open.form, outer.form, text);
+    if !around.is_empty() {
+        return said(alloc, &[around]);
+    }
+    if outer.form == Form::Head && is_unclosed(spot.rest, open.form, text) {
+        return lacking(alloc, spot, open);
+    }
+    if open.form == Form::Round && is_in_unclosed(spot, outer) {
+        return lacking(alloc, spot, outer);
+    }
     match plain_syntax(spot, open.form, text) {
         Some(sentence) => said(alloc, &[sentence]),
         None => lacking(alloc, spot, open),
     }
+}
+
+/// What is told of a place in a form that has this text and stands in another one, or nothing.
+fn of_outer(spot: &Spot<'_>, form: Form, outer: Form, text: &str) -> &'static str {
+    if form == Form::Head && outer == Form::Module && is_surplus(spot) {
+        SENTENCE_OF_CLOSER
+    } else if form == Form::Square && outer == Form::Head {
+        of_type_parameter(spot.rest, text)
+    } else {
+        ""
+    }
+}
+
+/// Whether what closes a form stands here for the second time.
+fn is_surplus(spot: &Spot<'_>) -> bool {
+    let closer = closer(spot);
+    !closer.is_empty() && spot.before.trim_end().ends_with(closer)
+}
+
+/// Whether a name and its type stand in a form around a bracket, where a `:` shows that it lacks its own end.
+fn is_in_unclosed(spot: &Spot<'_>, outer: Open) -> bool {
+    is_colon(spot.rest) && is_typed(outer.form, spot.before.get(outer.from..).unwrap_or(""))
 }
 
 /// The line of a byte of a text.
@@ -196,13 +231,17 @@ fn of_end(rest: &str, form: Form) -> Option<&'static str> {
 /// A form ends or goes on too early.
 fn of_closer(closer: &str, form: Form) -> Option<&'static str> {
     if form == Form::Module {
-        Some("no bracket, let, if, case or element is open here that goes on or ends with this")
+        Some(SENTENCE_OF_CLOSER)
     } else if closer == awaited(form) {
         Some("something has to stand before this, and is missing or isn't at its end")
     } else {
         None
     }
 }
+
+/// What is told of a sign or word that closes a form, where none is open.
+const SENTENCE_OF_CLOSER: &str =
+    "no bracket, let, if, case or element is open here that goes on or ends with this";
 
 /// Another sign at a place.
 fn of_sign(spot: &Spot<'_>, form: Form, text: &str) -> Option<&'static str> {

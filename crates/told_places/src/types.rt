@@ -1,5 +1,6 @@
 //! The sentences on types that differ.
 use crate::hints::{hint, is_shown};
+use crate::patterns::{is_record_pattern, lone_field, of_pattern};
 use crate::scan::{Form, innermost};
 use crate::spot::{Spot, said, tag_of, word_of};
 use crate::units::{Use, use_of, with_units};
@@ -35,7 +36,7 @@ fn of_values(
     found: &str,
     spot: &Spot<'_>,
 ) -> Result<String, AllocError> {
-    match lacked_field(wanted) {
+    match lone_field(wanted) {
         Some(field) if found.starts_with("$ [") => no_field(alloc, field, found),
         _ if is_shown(found) && is_unit_of_splice(alloc, wanted, spot)? => no_markup(alloc, found),
         _ if wanted == "string" && found.starts_with("xml ") && is_splice(alloc, spot.before)? => {
@@ -44,13 +45,28 @@ fn of_values(
                 &["a title holds texts and {[..]} alone, but this is markup"],
             )
         }
-        _ => differ(alloc, wanted, found, spot),
+        _ => match of_pattern(alloc, wanted, found, spot)? {
+            Some(sentence) => Ok(sentence),
+            None => differ(alloc, wanted, found, spot),
+        },
     }
 }
 
 /// What is told of two kinds that differ.
 pub(crate) fn kind_mismatch(alloc: Global, words: &str) -> Result<String, AllocError> {
     let (wanted, found) = sides_of(words);
+    if wanted.starts_with("( Type -> Type ) -> ") {
+        return said(
+            alloc,
+            &[
+                "this has the kind ",
+                found,
+                ", but ",
+                wanted,
+                " is wanted here: what a list or an option has stands behind it, as in list int",
+            ],
+        );
+    }
     said(
         alloc,
         &[
@@ -151,8 +167,7 @@ fn shape_of(words: &str) -> &'static str {
 
 /// A found type where it stands for all of its shape, or nothing. At a pattern that of the empty record does.
 fn found_shape(found: &str, rest: &str) -> &'static str {
-    let is_pattern = rest.starts_with('{') || rest.starts_with('(');
-    if found == "$ [ ]" && is_pattern && !rest.starts_with("()") && !rest.starts_with("{}") {
+    if found == "$ [ ]" && is_record_pattern(rest) {
         "a record"
     } else {
         shape_of(found)
@@ -296,6 +311,8 @@ fn where_of(context: &str) -> &'static str {
         "[ Table ]" => "in a table",
         "[ Tr ]" => "in a tr",
         "[ Body , Form ]" => "in a form",
+        "[ Form , Table ]" => "in a table of a form",
+        "[ Form , Tr ]" => "in a tr of a form",
         _ => "",
     }
 }
@@ -324,16 +341,6 @@ fn own_place<'a>(name: &str, own: &'a str) -> &'a str {
         "head" => "beside body",
         "body" => "beside head",
         _ => own,
-    }
-}
-
-/// The field that a record has to have, where it is all that is known of it.
-fn lacked_field(wanted: &str) -> Option<&str> {
-    let field = wanted.strip_prefix("$ [ ")?.strip_suffix(" ]")?;
-    if field.contains(' ') {
-        None
-    } else {
-        Some(field)
     }
 }
 

@@ -2,9 +2,12 @@
 use crate::actions::ends_operand;
 use crate::scan::Form;
 use crate::spot::{
-    Spot, begins_line, begins_with_capital, begins_with_small, behind_word, last_line, last_word,
-    tag_of, word_of,
+    Spot, begins_line, begins_with_capital, begins_with_small, behind_word, in_datatype,
+    is_declaration_word, is_word_part, last_line, last_word, tag_of, word_of,
 };
+
+/// What is told of a comment as other languages have them.
+pub(crate) const SENTENCE_OF_COMMENT: &str = "a comment stands between (* and *)";
 
 /// What is written otherwise than it is at a place, or nothing. `text` is that of the innermost open form.
 pub(crate) fn other_sign(spot: &Spot<'_>, form: Form, text: &str) -> &'static str {
@@ -12,13 +15,22 @@ pub(crate) fn other_sign(spot: &Spot<'_>, form: Form, text: &str) -> &'static st
     if !sign.is_empty() {
         sign
     } else if is_comment(spot, form) {
-        "a comment stands between (* and *)"
+        SENTENCE_OF_COMMENT
     } else if form != Form::Element && spot.before.trim_end().ends_with(';') {
-        "a ; stands between two actions, and none begins here: take away the ; before this"
+        behind_semicolon(spot, form)
     } else if form == Form::IfThen && has_short_else(text) {
         "else if is written as two words"
     } else {
         of_word(spot, form)
+    }
+}
+
+/// What begins no action, behind a `;`.
+fn behind_semicolon(spot: &Spot<'_>, form: Form) -> &'static str {
+    if is_declaration_word(word_of(spot.rest)) && !begins_line(spot.before) && form != Form::Let {
+        "no declaration stands among actions: write x <- return e; or let val x = e in .. end around those that follow"
+    } else {
+        "a ; stands between two actions, and none begins here: take away the ; before this"
     }
 }
 
@@ -71,6 +83,9 @@ fn has_short_else(text: &str) -> bool {
 
 /// A word that stands for another one, or nothing.
 fn of_word(spot: &Spot<'_>, form: Form) -> &'static str {
+    if word_of(spot.rest) == "and" && in_datatype(spot.before) {
+        return "no datatypes are joined by and: the end of docs/LANGUAGE.md says what is left out";
+    }
     if begins_line(spot.before) {
         return "";
     }
@@ -103,7 +118,7 @@ fn has_or(before: &str) -> bool {
 pub(crate) fn other_code(spot: &Spot<'_>, form: Form, text: &str) -> &'static str {
     if is_markup(spot) {
         "is this markup? It begins with <xml>, as in <xml><body>..</body></xml>"
-    } else if spot.rest.starts_with(':') && !spot.rest.starts_with("::") {
+    } else if is_colon(spot.rest) {
         of_colon(spot.before, form)
     } else if form == Form::Round && begins_next(spot.rest) && has_type(text) {
         "what has a type behind a : stands in brackets of its own, as in (x : int) (y : int)"
@@ -128,10 +143,65 @@ fn is_markup(spot: &Spot<'_>) -> bool {
 
 /// A `:` where none may stand.
 fn of_colon(before: &str, form: Form) -> &'static str {
-    if form == Form::Curly && begins_with_capital(last_word(before.trim_end())) {
+    if form == Form::Module && in_datatype(before) {
+        "what a constructor holds stands behind of, as in A of int"
+    } else if form == Form::Curly && begins_with_capital(last_word(before.trim_end())) {
         "the value of a field stands behind a =, as in {Cents = 450}"
     } else {
         "a term and its type stand in brackets, as in (e : t), and between an item and its list stands ::"
+    }
+}
+
+/// Whether a text begins with a `:` alone.
+pub(crate) fn is_colon(rest: &str) -> bool {
+    rest.starts_with(':') && !rest.starts_with("::")
+}
+
+/// Whether a bracket in the head of a declaration, which has this text, is likely to lack its end before a place.
+pub(crate) fn is_unclosed(rest: &str, form: Form, text: &str) -> bool {
+    match form {
+        Form::Round => begins_behind_head(rest) && is_typed(form, text),
+        Form::Square => text.contains("::") && (begins_behind_head(rest) || rest.starts_with('(')),
+        Form::Curly => begins_behind_head(rest) && last_field(text).contains(':'),
+        _ => false,
+    }
+}
+
+/// What is told in a square bracket that has this text and stands in the head of a declaration, or nothing.
+pub(crate) fn of_type_parameter(rest: &str, text: &str) -> &'static str {
+    if rest.starts_with(',') {
+        "each type that a function takes stands in brackets of its own, as in [a] [b]"
+    } else if is_colon(rest) && !text.contains(':') {
+        "a type and its kind have a :: between them, or a ::: where each call finds the type"
+    } else {
+        ""
+    }
+}
+
+/// Whether a text begins with a sign that stands behind the parameters of a declaration.
+fn begins_behind_head(rest: &str) -> bool {
+    is_colon(rest) || rest.starts_with('=') && !rest.starts_with("=>")
+}
+
+/// Whether a text begins with a bracket in which a name and its type stand.
+pub(crate) fn is_typed(form: Form, text: &str) -> bool {
+    match text.split_once(':') {
+        Some((front, behind)) => form == Form::Round
+            && front
+                .trim_start_matches('(')
+                .trim()
+                .chars()
+                .all(|c| is_word_part(c))
+            && !behind.starts_with(':'),
+        None => false,
+    }
+}
+
+/// The last field of a record, or all of it where it has no comma.
+fn last_field(text: &str) -> &str {
+    match text.rsplit_once(',') {
+        Some((_, field)) => field,
+        None => text,
     }
 }
 
