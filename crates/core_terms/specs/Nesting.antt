@@ -91,8 +91,7 @@ abbrev mutual
   exps_nesting (an_exp e es) = max (nesting e) (exps_nesting es)
 
 -- The bound on every term and pattern that is built: a sum of 1,000 numbers keeps within it. A walk with one call a
--- level
--- and the letting go of a term were seen to survive 1,500 levels on a stack of 8 MiB, where nothing is optimised.
+-- level and the letting go of a term were seen to survive 1,500 levels on a stack of 8 MiB, where nothing is optimised.
 abbrev pub most_nested : ℕ
 most_nested = 1200
 

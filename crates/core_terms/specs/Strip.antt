@@ -1,8 +1,7 @@
 -- What is left of a term when what was inserted is dropped: its source, with names resolved.
 -- Dropped are inserted constructors, guards, folders and instances at calls, and a call of which no item is left and
--- before whose head the source has no sigil. A constructor that was found for _ is _ again. Types, rows and
--- contexts that
--- weren't written become (). A kind that isn't written at a binder is Type, and so belongs to the source.
+-- before whose head the source has no sigil. A constructor that was found for _ is _ again. Types, rows and contexts
+-- that weren't written become (). A kind that isn't written at a binder is Type, and so belongs to the source.
 use Rattle.std.specs.Prelude.{Bool, true, false}
 use Rattle.con_terms.specs.Trees.{Kd, types, Cn, unit_con}
 use Rattle.con_terms.specs.declared.place.Place.{Place}

@@ -3,7 +3,6 @@ use Rattle.std.proofs.Common.{◌≡◌, ◌≢◌, ℕ, zero, suc, ◌+◌, Boo
 use Rattle.std.specs.List.{Contains, All}
 use Rattle.std.proofs.lemmas.List.{append-nil}
 use Rattle.std.proofs.lemmas.List.Elements.{All-contains, All-nil, All-cons, Contains-append_left, Contains-append_right, Contains-append_cases}
-use Rattle.std.proofs.lemmas.Option.{slice_get_within, get_or_from_slice_get}
 use Rattle.std.proofs.lemmas.Bool.{eqb-true, eqb-false}
 use Rattle.con_terms.specs.Trees.{Kd, Kds, types, row_of, to, Cn, Cns, Prs, var, basic, app, record_of, name, row, no_pairs, pair, names_of}
 use Rattle.con_terms.specs.Substitution.{shift}
@@ -24,6 +23,7 @@ use Rattle.core_typing.proofs.TypeKinds.{AreTypes, none_are, more_are, both_are}
 use Rattle.std.proofs.lemmas.List.{map-append}
 use Rattle.disjoint_prover.proofs.Sound.{contains_head, contains_tail}
 use Rattle.core_typing.proofs.Containing.{nothing_in, head_or, contains_map}
+use Rattle.link_router.proofs.Sent.{listed_in as there_in}
 
 -- every name of a list has one kind there
 Unique : List (ℕ × Kd) → Type 0
@@ -280,9 +280,6 @@ folder_in (f ∷ fs) k s c = elim (head_or (k, s) f fs c) [
   | inr i ↦ contains_tail (s, to (row_of k) types) (f.1, to (row_of f.0) types) (folder_kinds fs) (folder_in fs k s i)
 ]
 
-there_in : {X : Type 0} (xs : List X) (i : ℕ) (x : X) → slice_get xs i ≡ Some x → Contains xs x
-there_in xs i x e = (i, slice_get_within xs i x e, get_or_from_slice_get xs i x x e)
-
 has_types : (p : Pg) (tops : List Cn) (ds : List Dt) → Unique (names_at p ds) → Good p tops ds → HasTypes (scope_with p tops ds)
 has_types p tops ds u g = record { grounded = grounded; locals = λ i t e. cc }
   where
@@ -304,7 +301,7 @@ has_types p tops ds u g = record { grounded = grounded; locals = λ i t e. cc }
       lists = found_there (names_at p ds) u list_name (to types types) (middle (list_name, to types types) (2, omega arith, refl));
     }
 
-datatypes_of : (front rest : List De) → datatypes (front ++ rest) ≡ datatypes front ++ datatypes rest
+pub datatypes_of : (front rest : List De) → datatypes (front ++ rest) ≡ datatypes front ++ datatypes rest
 datatypes_of [] rest = refl
 datatypes_of (val path at x w t e ∷ front) rest = datatypes_of front rest
 datatypes_of (vals path ns ∷ front) rest = datatypes_of front rest

@@ -9,6 +9,7 @@ use Rattle.row_normal.proofs.Options.{both_from, neither_from}
 use Rattle.link_router.specs.RouteLaws.{IsPlain}
 use Rattle.core_typing.specs.Declarations.{Distinct}
 use Rattle.core_typing.specs.Accepts.{TextsDiffer}
+use Rattle.std.proofs.lemmas.Bool.{not-true as not_true}
 
 abbrev is_among : ℕ → List ℕ → Bool
 is_among x [] = false
@@ -17,10 +18,6 @@ is_among x (y ∷ ys) = (x == y) || is_among x ys
 abbrev pub all_differ : List ℕ → Bool
 all_differ [] = true
 all_differ (x ∷ xs) = not (is_among x xs) && all_differ xs
-
-not_true : (b : Bool) → not b ≡ true → b ≡ false
-not_true true h = cc
-not_true false h = refl
 
 different : (x y : ℕ) → (x == y) ≡ false → x ≡ y → ⊥
 different x y h e = let yes : (x == y) ≡ true = (Decides-eqb x y).1 e in cc

@@ -10,7 +10,7 @@ use Rattle.core_typing.specs.ExampleTerms.{byte, basis_scope, clashing}
 use Rattle.core_typing.specs.ExampleProgram.{clashing_program, ClashOfProgramIsTold}
 use Rattle.core_typing.proofs.ExampleFaults.{not_before, kind_at, wants_at, literal_is_well, concat_at, not_before_clash, clash_told}
 
-none_in : {X : Type 0} {x : X} → Contains [] x → ⊥
+pub none_in : {X : Type 0} {x : X} → Contains [] x → ⊥
 none_in c = absurd (omega (arith, c.1))
 
 no_entry : (t : Cn) (i : ℕ) (post : Bool) (e : Ent) → IsEntry (clashing_program t) i post e → ⊥

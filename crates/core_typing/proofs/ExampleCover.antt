@@ -61,7 +61,7 @@ some_pattern_at (large_holding n) = inl refl
 some_pattern_at (holds_less d h n) = inl refl
 some_pattern_at (faults.in_held d h g) = inr (held_pattern_at g)
 
-uncovered_at : {G : Sc} {p : Place} {ps : List Pt} {t : Cn} {f : Fault} → Uncovered G p ps t f → at f ≡ p
+pub uncovered_at : {G : Sc} {p : Place} {ps : List Pt} {t : Cn} {f : Fault} → Uncovered G p ps t f → at f ≡ p
 uncovered_at (misses s m) = refl
 uncovered_at (large_part l) = refl
 

@@ -24,7 +24,7 @@ action_form : normal_of generic_action ≡ Some generic_action
 unfolding comparison_units
 action_form = refl
 
-same_cn : {x y : Cn} → Some x ≡ Some y → x ≡ y
+pub same_cn : {x y : Cn} → Some x ≡ Some y → x ≡ y
 same_cn e = cc
 
 -- the normal form of what stands at the top

@@ -16,17 +16,15 @@ use Rattle.core_typing.specs.Own.{Own, Wants, other, large, NotOf, other_form, l
 use Rattle.core_typing.specs.Tells.{tells_own, Sub, with_type, left, right, field_term, this_field, past_field, Fails, itself, inside}
 use Rattle.core_typing.specs.ExampleTerms.{byte, a_name, basis_scope}
 use Rattle.core_typing.specs.ExampleTypings.{MoreFieldsMismatch, SameNamesClash}
+pub use Rattle.link_router.proofs.ReadBack.{no_other as no_some}
 
-not_before_itself : (p : Place) → Earlier p p → ⊥
+pub not_before_itself : (p : Place) → Earlier p p → ⊥
 not_before_itself p (inl h) = absurd (omega (arith, h))
 not_before_itself p (inr h) = absurd (omega (arith, h.1))
 
 abbrev IsNone : {X : Type 0} → Option X → Type 0
 IsNone None = Unit {0}
 IsNone (Some x) = ⊥
-
-pub no_some : {X : Type 0} {x : X} → None ≡ Some x → ⊥
-no_some e = subst IsNone e tt
 
 pub not_before : (f : Fault) {p : Place} → at f ≡ p → Earlier (at f) p → ⊥
 not_before f {p} e h = not_before_itself p (subst (λ q. Earlier q p) e h)
@@ -36,15 +34,15 @@ pub wants_at : {G : Sc} {p : Place} {t u : Cn} {f : Fault} → Wants G p t u f �
 wants_at (other d) = refl
 wants_at (large d) = refl
 
-form_at : {F : Cn → Type 0} {G : Sc} {p : Place} {w t : Cn} {f : Fault} → NotOf F G p w t f → at f ≡ p
+pub form_at : {F : Cn → Type 0} {G : Sc} {p : Place} {w t : Cn} {f : Fault} → NotOf F G p w t f → at f ≡ p
 form_at (other_form n d) = refl
 form_at (large_form n) = refl
 
-meets_at : {G : Sc} {p : Place} {a b : Cn} {f : Fault} → Meets G p a b f → at f ≡ p
+pub meets_at : {G : Sc} {p : Place} {a b : Cn} {f : Fault} → Meets G p a b f → at f ≡ p
 meets_at (they_touch t) = refl
 meets_at (they_are_large l) = refl
 
-flaw_place : (p : Place) (xs : List ℕ) (w : Flw) → at (flaw_at p xs w) ≡ p
+pub flaw_place : (p : Place) (xs : List ℕ) (w : Flw) → at (flaw_at p xs w) ≡ p
 flaw_place p xs (unbound_variable i) = refl
 flaw_place p xs (unbound_basic s) = refl
 flaw_place p xs (kinds_differ k l) = refl

@@ -14,6 +14,7 @@ use Rattle.core_typing.specs.Cover as cover
 use Rattle.core_typing.specs.ExampleTerms.{option_int, none_at_name, some_at_name, option_at_name}
 use Rattle.core_typing.specs.ExampleTypings.{FieldsAtNamesAreCovered}
 use Rattle.core_typing.proofs.ExampleFaults.{no_some}
+use Rattle.core_typing.proofs.ExampleElements.{same_cn}
 
 abbrev patterns : List Pt
 patterns = none_at_name ∷ some_at_name ∷ []
@@ -36,9 +37,6 @@ name_form = refl
 
 abbrev option_constructors : List Cd
 option_constructors = constructor_of none_name None ∷ constructor_of some_name (Some (var 0)) ∷ []
-
-same_cn : {x y : Cn} → Some x ≡ Some y → x ≡ y
-same_cn e = cc
 
 same_seen : (t : Cn) {n m : Cn} {s : Seen} → normal_of t ≡ Some m → normal_of t ≡ Some n → seen basis_datatypes n ≡ s → seen basis_datatypes m ≡ s
 same_seen t {s = s} h k e = subst (λ x. seen basis_datatypes x ≡ s) (same_cn (sym k ∙ h)) e

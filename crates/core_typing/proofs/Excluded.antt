@@ -61,32 +61,32 @@ disjoint_both {gs} p q x = subst₂ (λ y z. Disjoint gs y z) (sym p) (sym q) x
 covers_both : {ds : List Dt} {ps : List Pt} {t u : Cn} → t ≡ u → Covers ds ps u → Covers ds ps t
 covers_both {ds} {ps} p x = subst (λ y. Covers ds ps y) (sym p) x
 
-form_out : {F : Cn → Type 0} {G : Sc} {p : Place} {w t n : Cn} {f : Fault} → NotOf F G p w t f → normal_of t ≡ Some n → F n → ⊥
+pub form_out : {F : Cn → Type 0} {G : Sc} {p : Place} {w t n : Cn} {f : Fault} → NotOf F G p w t f → normal_of t ≡ Some n → F n → ⊥
 form_out {F = F} (other_form h none) k x = none (subst F (one_value k h) x)
 form_out (large_form h) k x = no_value h k
 
 pub kind_out : {G : Sc} {p : Place} {c : Cn} {k : Kd} {f : Fault} → HasKind G c k → LacksKind G p c k f → ⊥
 kind_out (has h) (lacks e) = no_error h e
 
-meets_out : {G : Sc} {p : Place} {a b : Cn} {f : Fault} → Disjoint G.kinds.guards a b → Meets G p a b f → ⊥
+pub meets_out : {G : Sc} {p : Place} {a b : Cn} {f : Fault} → Disjoint G.kinds.guards a b → Meets G p a b f → ⊥
 meets_out d (they_touch t) = no_value d.none_touch t
 meets_out {G} {a = a} {b = b} d (they_are_large l) = no_value d.none_touch (ap (forms_flaw G.kinds.guards) l)
 
-cover_out : {G : Sc} {p : Place} {ps : List Pt} {t : Cn} {f : Fault} → Covers G.datatypes ps t → Uncovered G p ps t f → ⊥
+pub cover_out : {G : Sc} {p : Place} {ps : List Pt} {t : Cn} {f : Fault} → Covers G.datatypes ps t → Uncovered G p ps t f → ⊥
 cover_out c (misses {s = s} small m) = let e = sym m.missed ∙ c.taken s m.shape in cc
 cover_out c (large_part l) = c.small l
 
 -- patterns
-other_out : {G : Sc} {s j i : ℕ} {t n : Cn} {d : Dt} {c b : Cd} {args : List Cn} → Constructs G s i d b → normal_of t ≡ Some n → ((as' : List Cn) → seen G.datatypes n ≡ a_datatype d as' → ⊥) → AtData G s j t c args → ⊥
+pub other_out : {G : Sc} {s j i : ℕ} {t n : Cn} {d : Dt} {c b : Cd} {args : List Cn} → Constructs G s i d b → normal_of t ≡ Some n → ((as' : List Cn) → seen G.datatypes n ≡ a_datatype d as' → ⊥) → AtData G s j t c args → ⊥
 other_out {G} {args = args} x h none a =
     let d = one_value a.constructs.declared x.declared in
     let n = one_value a.normal h in
     none args (sym (ap (seen G.datatypes) n) ∙ a.at_datatype ∙ ap (λ e. a_datatype e args) d)
 
-holds_out : {G : Sc} {s j : ℕ} {t held : Cn} {c b : Cd} {args more : List Cn} → AtData G s j t c args → AtData G s j t b more → c.holds ≡ Some held → b.holds ≡ None → ⊥
+pub holds_out : {G : Sc} {s j : ℕ} {t held : Cn} {c b : Cd} {args more : List Cn} → AtData G s j t c args → AtData G s j t b more → c.holds ≡ Some held → b.holds ≡ None → ⊥
 holds_out x y h k = let (e, a) = one_constructor x y in no_value (ap (λ (z : Cd). z.holds) e ∙ k) h
 
-none_left : {c : Cn} {cs : List Cn} → c ∷ cs ≡ [] → ⊥
+pub none_left : {c : Cn} {cs : List Cn} → c ∷ cs ≡ [] → ⊥
 none_left e = cc
 
 mutual
@@ -205,7 +205,7 @@ attributes_out (own.not_linked h n) (attribute_found {v = v} a e b l o as') = li
 attributes_out (own.later_attribute f) (attribute_found a e b l o as') = attributes_out f as'
 
 -- nodes
-words_out : {xs : Xs} {e : Ex} → NotWords xs e → NodesAreWords xs → ⊥
+pub words_out : {xs : Xs} {e : Ex} → NotWords xs e → NodesAreWords xs → ⊥
 words_out (this_node none) w = none w.0
 words_out (later_words h d) w = words_out d w.1
 
@@ -261,14 +261,14 @@ head_alike : (w : Where) (o q : Bool) → w ≡ in_head → context_row w o ≡ 
 head_alike w o q i = ap (λ v. context_row v o) i ∙ sym (ap (λ v. context_row v q) i)
 
 -- a context with a form around it isn't one without
-second_is : (m : Cn) (o : Option (Cn × ℕ)) (n : Cn) → with_second m o ≡ Ok (n, n) → elim o [ None ↦ None | Some r ↦ Some r.0 ] ≡ Some m
+pub second_is : (m : Cn) (o : Option (Cn × ℕ)) (n : Cn) → with_second m o ≡ Ok (n, n) → elim o [ None ↦ None | Some r ↦ Some r.0 ] ≡ Some m
 second_is m None n e = cc
 second_is m (Some r) n e = ap (λ x. Some x) (sym (both_parts (one_answer {r = Ok (m, r.0)} refl e)))
   where
     both_parts : ◌≡◌ {A = Cn × Cn} (m, r.0) (n, n) → m ≡ r.0
     both_parts i = ap (λ (x : Cn × Cn). x.0) i ∙ sym (ap (λ (x : Cn × Cn). x.1) i)
 
-context_form : (w : Where) (o : Bool) (c : Cn) → Alike (context_row w o) c → normal_of c ≡ Some (context_row w o)
+pub context_form : (w : Where) (o : Bool) (c : Cn) → Alike (context_row w o) c → normal_of c ≡ Some (context_row w o)
 unfolding comparison_units
 context_form in_html o c a = second_is (context_row in_html false) (nf comparison_units c) a.form a.forms
 context_form in_head o c a = second_is (context_row in_head false) (nf comparison_units c) a.form a.forms
@@ -279,7 +279,7 @@ context_form in_table true c a = second_is (context_row in_table true) (nf compa
 context_form in_tr false c a = second_is (context_row in_tr false) (nf comparison_units c) a.form a.forms
 context_form in_tr true c a = second_is (context_row in_tr true) (nf comparison_units c) a.form a.forms
 
-differ_by_form : (w : Where) → MayBeInForm w true → context_row w false ≡ context_row w true → ⊥
+pub differ_by_form : (w : Where) → MayBeInForm w true → context_row w false ≡ context_row w true → ⊥
 differ_by_form in_html m e = m
 differ_by_form in_head m e = m
 differ_by_form in_body m e = cc

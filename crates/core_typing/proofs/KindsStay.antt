@@ -4,15 +4,16 @@ use Rattle.std.specs.List.{Contains}
 use Rattle.std.proofs.lemmas.List.{length-map}
 use Rattle.std.proofs.lemmas.List as lists
 use Rattle.con_terms.specs.Trees.{Kd, Kds, Cn, var, Cns, Prs, names_of}
-use Rattle.con_terms.specs.Substitution.{replaced, shift, moved, subst_at, put}
+use Rattle.con_terms.specs.Substitution.{shift, moved, subst_at, put}
 use Rattle.con_terms.specs.Substitution as walk
 use Rattle.con_terms.specs.Apart.{Guards, Separated, names_differ, by_guard, by_guard_turned, Apart, apart, PairwiseApart}
 use Rattle.con_terms.specs.Kinded.{Scope, bind, assume, basic_kind, Kinded, of_var, of_basic, of_arrow, of_poly, of_guarded, of_record, of_app, of_lambda, of_unit, of_name, of_row, of_cat, of_map, of_tuple, of_proj, KindedAll, no_components, a_component, KindedPairs, no_fields, a_field}
-use Rattle.con_terms.proofs.Walks.{walks_meet, walk_same, shift_shift, shift_sum, shift_subst, subst_shift, subst_gone, subst_subst}
+use Rattle.con_terms.proofs.Walks.{shift_shift, shift_sum, shift_subst, subst_shift, subst_gone, subst_subst}
 use Rattle.con_terms.proofs.Equals.{Equal_shift, Equal_subst_at}
 use Rattle.core_typing.specs.KindLaws.{Widens, guards_with, guards_shifted}
 use Rattle.core_typing.proofs.Moving.{Walks, Images, Moves, kinded_moved}
 use Rattle.core_typing.proofs.Containing.{contains_map, at_place}
+pub use Rattle.kind_rules.proofs.Layers.{shift_none}
 
 -- shifts
 moved_next : (by n i : ℕ) → moved by (n + 1) (suc i) ≡ shift 1 (moved by n i) 0
@@ -198,13 +199,6 @@ constructors_substitute inner outer l gs basics a c k h g =
     let H : Scope = record { binders = inner ++ outer; guards = guards_with a (length inner) gs; basics = basics } in
     let m : Moves Kinded (put a) (length inner) G H = record { image = λ i j e. image_kinded refl h (find a inner outer l i j e); guards = refl; basics = refl } in
     kinded_moved kinded_images (put_walks a) m g
-
-pub shift_none : (c : Cn) → shift 0 c 0 ≡ c
-shift_none c =
-    let id : ℕ → ℕ → Cn = λ _ i. var i in
-    let met : replaced (moved 0) (replaced id c 0) 0 ≡ replaced id (replaced id c 0) 0 =
-    walks_meet id (moved 0) id id (λ _ _ _ _. Unit {0}) (record { deeper = λ d n m e r. tt; at_var = λ d n m e i r. grind arith }) 0 0 0 0 tt c in
-    subst (λ x. replaced (moved 0) x 0 ≡ x) (walk_same c 0) (met ∙ walk_same (replaced id c 0) 0)
 
 pub put_back : (a : Cn) (gs : Guards) → guards_with a 0 (map (λ (g : Cn × Cn). (shift 1 g.0 0, shift 1 g.1 0)) gs) ≡ gs
 put_back a [] = refl

@@ -19,9 +19,7 @@ use Rattle.kind_rules.proofs.Sound.{forms_equal, apart_sound}
 use Rattle.core_terms.specs.Types.{one_field}
 use Rattle.core_typing.specs.Scopes.{normal_of}
 use Rattle.core_typing.specs.Compared.{Alike, Disjoint, value_of, behind, field_or, field_of, without_piece, without_pieces}
-
-some_is : {X : Type 0} (x y : X) → Some x ≡ Some y → x ≡ y
-some_is x y h = cc
+use Rattle.std.proofs.lemmas.Option.{same_Some as some_is}
 
 pair_is : (x y : Cn × List Cn) → Some x ≡ Some y → x ≡ y
 pair_is x y h = cc
@@ -35,7 +33,7 @@ pub normal_equal : {c n : Cn} → normal_of c ≡ Some n → Equal c n
 normal_equal {c} {n} h = let (l, e) = normal_from (nf comparison_units c) n h in nf_equal comparison_units l c n e
 
 -- the first of two normal forms is the one that is found alone, and the second is one
-pairs_are : {x y : Cn × Cn} → ◌≡◌ {A = Result (Cn × Cn) Flw} (Ok x) (Ok y) → x ≡ y
+pub pairs_are : {x y : Cn × Cn} → ◌≡◌ {A = Result (Cn × Cn) Flw} (Ok x) (Ok y) → x ≡ y
 pairs_are e = cc
 
 second_from : (k m n : Cn) (o : Option (Cn × ℕ)) → with_second k o ≡ Ok (m, n) → (k ≡ m) × ((l : ℕ) × (o ≡ Some (n, l)))
@@ -68,7 +66,7 @@ pub disjoint_apart : {gs : Guards} {a b : Cn} → Disjoint gs a b → Apart gs a
 disjoint_apart {gs} {a} {b} d = apart_sound gs a b d.none_touch
 
 -- rows by their pieces
-none_behind : (ps : List Cn) → ps ++ [] ≡ ps
+pub none_behind : (ps : List Cn) → ps ++ [] ≡ ps
 none_behind [] = refl
 none_behind (p ∷ ps) = ap (λ qs. p ∷ qs) (none_behind ps)
 
@@ -146,7 +144,7 @@ field_picks n (p ∷ ps) v qs e = by_value (value_of n p) (field_of n ps) refl (
         let j : p ≡ one_field n v = value_is n p w h ∙ ap (one_field n) (ap (λ (x : Cn × List Cn). x.0) i) in
         subst₂ (λ x rs. Picks (p ∷ ps) x rs) j (ap (λ (x : Cn × List Cn). x.1) i) picks_first
 
-piece_equal : (c : Cn) (ps qs : List Cn) → without_piece c ps ≡ Some qs → Picks ps c qs
+pub piece_equal : (c : Cn) (ps qs : List Cn) → without_piece c ps ≡ Some qs → Picks ps c qs
 piece_equal c [] qs e = cc
 piece_equal c (p ∷ ps) qs e = by_test (cn_eq p c) (without_piece c ps) refl (λ rs. piece_equal c ps rs) e
   where

@@ -1,5 +1,5 @@
 -- The program of one page: that it is accepted, and its routes.
-use Rattle.std.proofs.Common.{◌≡◌, ℕ, zero, suc, ◌<◌, true, false, List, [], ◌∷◌, Some, None, refl, subst, arith, sym, ◌∙◌, length}
+use Rattle.std.proofs.Common.{◌≡◌, ℕ, zero, suc, ◌<◌, true, false, List, ◌∷◌, Some, None, refl, subst, arith, sym, ◌∙◌, length, []}
 use Rattle.std.specs.Prelude.{codes, Contains, slice_get}
 use Rattle.std.specs.List.{All}
 use Rattle.std.proofs.lemmas.List.Elements.{All-from_recursion}
@@ -25,9 +25,7 @@ use Rattle.core_typing.proofs.Differing.{all_plain_by_test, differ_by_test, dist
 use Rattle.core_typing.specs.ExampleTerms.{said, with_added}
 use Rattle.core_typing.specs.ExampleProgram.{one_page, empty_body, OnePageIsAccepted}
 use Rattle.core_terms.specs.declared.exp.Sigil.TheVariants.{Plain}
-
-none_in : {X : Type 0} {x : X} → Contains [] x → ⊥
-none_in c = absurd (omega (arith, c.1))
+use Rattle.core_typing.proofs.ExampleClash.{none_in}
 
 abbrev top_level : Sc
 top_level = scope_with one_page [] []

@@ -7,6 +7,7 @@ use Rattle.core_typing.specs.Scopes.{normal_of}
 use Rattle.core_typing.specs.Seen.{Seen, a_number, a_datatype, nothing_more, literal_fields, seen}
 use Rattle.core_typing.specs.Seen as seen
 use Rattle.core_typing.specs.Entries.{put_part, parts_of, Shaped, of_int, of_text, of_truth, of_datatype, of_nothing, of_fields, of_parameter, AllShaped, none_shaped, one_shaped, FieldsShaped, no_field_shaped, field_shaped, HeldShaped, holds_nothing, holds_one, CasesShaped, no_case, a_case, DatatypesShaped, no_datatype, carried, not_carried}
+use Rattle.link_router.proofs.ReadBack.{heads, tails}
 
 -- what kind of type a normal form is, and a shape
 abbrev class : Seen → ℕ
@@ -64,12 +65,6 @@ same_row {r = r} {s = s} q h g = let both : record_of r ≡ record_of s = two_fo
 
 same_variable : {t u : Cn} {i j : ℕ} → t ≡ u → normal_of t ≡ Some (var i) → normal_of u ≡ Some (var j) → i ≡ j
 same_variable {i = i} {j = j} q h g = let both : var i ≡ var j = two_forms q h g in cc
-
-heads : {X : Type 0} {x y : X} {xs ys : List X} → x ∷ xs ≡ y ∷ ys → x ≡ y
-heads e = cc
-
-tails : {X : Type 0} {x y : X} {xs ys : List X} → x ∷ xs ≡ y ∷ ys → xs ≡ ys
-tails e = cc
 
 no_fields_there : {P X : Type 0} {x : X} {xs : List X} → [] ≡ x ∷ xs → P
 no_fields_there e = cc

@@ -16,7 +16,7 @@ use Rattle.core_typing.specs.Accepts.{Accepts, Formed}
 use Rattle.core_typing.proofs.OneShape.{OnePlace, one_shape, one_shape_each}
 use Rattle.core_typing.proofs.SiteRoutes.{distinct_places}
 
-some_is : {X : Type 0} {x y : X} → Some x ≡ Some y → x ≡ y
+pub some_is : {X : Type 0} {x y : X} → Some x ≡ Some y → x ≡ y
 some_is e = cc
 
 -- the action of a page is its own normal form

@@ -18,10 +18,7 @@ use Rattle.core_typing.specs.Found.{FoundBy, bound_has, top_has, foreign_has, ba
 use Rattle.core_typing.specs.TypingLaws.{OneTypeIsFound, OneListIsBound}
 use Rattle.core_typing.proofs.Normal.{first_form, same_second}
 use Rattle.core_typing.proofs.LeftOver.{inside}
-
--- one value, one answer
-pub one_value : {X : Type 0} {o : Option X} {x y : X} → o ≡ Some x → o ≡ Some y → x ≡ y
-one_value h k = let e = sym h ∙ k in cc
+pub use Rattle.link_router.proofs.Listed.{one_value}
 
 pub one_answer : {X : Type 0} {r : Result X Flw} {x y : X} → r ≡ Ok x → r ≡ Ok y → x ≡ y
 one_answer h k = let e = sym h ∙ k in cc

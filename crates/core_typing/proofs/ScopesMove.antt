@@ -1,8 +1,7 @@
 -- Scopes of terms under a walk over constructors, and what of them stays.
-use Rattle.std.proofs.Common.{◌≡◌, ℕ, zero, suc, ◌+◌, ◌≤◌, List, [], ◌∷◌, ◌++◌, length, map, Option, Some, option_map, slice_get, Bool, true, false, if◌then◌else◌, ◌==◌, refl, ap, sym, subst, ◌∙◌, arith}
+use Rattle.std.proofs.Common.{◌≡◌, ℕ, zero, suc, ◌+◌, ◌≤◌, List, ◌∷◌, ◌++◌, length, map, Option, Some, option_map, slice_get, Bool, true, false, if◌then◌else◌, refl, ap, sym, subst, ◌∙◌, arith, []}
 use Rattle.std.proofs.lemmas.Option.{slice_get-map}
 use Rattle.std.proofs.lemmas.List.{length-map, length-append}
-use Rattle.std.proofs.lemmas.Bool.{eqb-true}
 use Rattle.con_terms.specs.Trees.{Kd, types, Cn, app}
 use Rattle.con_terms.specs.Substitution.{replaced, shift}
 use Rattle.con_terms.specs.Substitution as walk
@@ -21,6 +20,7 @@ use Rattle.core_typing.proofs.Moving.{Walks, Images, Moves, moves_deeper, moves_
 use Rattle.core_typing.proofs.Closed.{closed}
 use Rattle.core_typing.proofs.BasisKinds.{basis_kind, fold_kind, constructor_kind}
 use Rattle.std.proofs.lemmas.List.{map-append}
+pub use Rattle.core_typing.proofs.Matched.{symbol_of as found_symbol}
 
 -- a walk that keeps what a typing asks
 pub record Goes (A : Asks) (I : Scope → Cn → Kd → Type 0) (f : ℕ → ℕ → Cn) : Type 0 where
@@ -85,10 +85,6 @@ local_moved {f = f} {n = n} {G = G} w i t e = ap (λ xs. slice_get xs i) w.local
 test_of : {X : Type 0} (b : Bool) (x y : X) (o : Option X) (P : X → Type 0) → (b ≡ true → P x) → (o ≡ Some y → P y) → (if b then Some x else o) ≡ Some y → P y
 test_of true x y o P h k e = let same : x ≡ y = cc in subst P same (h refl)
 test_of false x y o P h k e = k e
-
-pub found_symbol : (ds : List Dt) (s : ℕ) (d : Dt) → datatype_of ds s ≡ Some d → d.symbol ≡ s
-found_symbol [] s d e = cc
-found_symbol (x ∷ ds) s d e = test_of (x.symbol == s) x d (datatype_of ds s) (λ y. y.symbol ≡ s) (λ t. eqb-true x.symbol s t) (λ h. found_symbol ds s d h) e
 
 -- the types of what stands at the top
 pub constructor_type_kind : {G : Sc} → Grounded G → (s j : ℕ) (d : Dt) (c : Cd) → datatype_of G.datatypes s ≡ Some d → slice_get d.constructors j ≡ Some c → Kinded (at_top 0 G.kinds.basics) (constructor_type d c) types

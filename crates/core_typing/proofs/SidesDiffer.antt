@@ -1,5 +1,5 @@
 -- The sides that a told mismatch keeps differ.
-use Rattle.std.proofs.Common.{◌≡◌, ◌≢◌, ℕ, zero, suc, max, Bool, true, false, ◌==◌, List, [], ◌∷◌, ◌++◌, length, Option, Some, None, Result, Ok, Err, refl, ap, sym, ◌∙◌, subst, arith}
+use Rattle.std.proofs.Common.{◌≡◌, ◌≢◌, ℕ, zero, suc, max, Bool, true, false, ◌==◌, List, ◌∷◌, ◌++◌, length, Option, Some, None, Result, Ok, Err, refl, ap, sym, ◌∙◌, subst, arith, []}
 use Rattle.std.proofs.lemmas.Bool.Decides.{Decides-eqb}
 use Rattle.con_terms.specs.Trees.{Kd, types, units, Cn, var, basic, arrow, poly, guarded, record_of, app, lambda, unit_con, name, row, cat, map_of, tuple, proj, no_pairs}
 use Rattle.con_terms.specs.Size.{depth}
@@ -34,8 +34,9 @@ use Rattle.core_typing.specs.Own as own
 use Rattle.core_typing.specs.Tells.{Sub, Behind, InLocals, Tells, tells_own, tells_inner}
 use Rattle.core_typing.specs.Tells as tells
 use Rattle.core_typing.specs.FaultLaws.{SidesDiffer, OwnSymbols, ToldSidesDiffer}
-use Rattle.core_typing.proofs.Normal.{second_form}
+use Rattle.core_typing.proofs.Normal.{second_form, none_behind}
 use Rattle.core_typing.proofs.LeftOver.{inside, no_value, field_there, no_such_field, something_left}
+use Rattle.std.proofs.lemmas.Bool.{ne_eqb as differs_as_test}
 
 -- flaws of kinding
 flaw_differs : (p : Place) (xs : List ℕ) (w : Flw) → DiffersIn w → SidesDiffer (flaw_at p xs w)
@@ -129,20 +130,9 @@ seen_applied : (ds : List Dt) (f : Cn) (args more : List Cn) → seen_at ds (at_
 seen_applied ds f [] more = refl
 seen_applied ds f (a ∷ args) more = seen_applied ds (app f a) args more
 
-none_behind : (cs : List Cn) → cs ++ [] ≡ cs
-none_behind [] = refl
-none_behind (c ∷ cs) = ap (λ x. c ∷ x) (none_behind cs)
-
 as_many : (n : ℕ) → length (untold n) ≡ n
 as_many zero = refl
 as_many (suc n) = ap suc (as_many n)
-
-differs_as_test : (x y : ℕ) → x ≢ y → (x == y) ≡ false
-differs_as_test x y h = by_test (x == y) refl
-  where
-    by_test : (b : Bool) → (x == y) ≡ b → (x == y) ≡ false
-    by_test false e = e
-    by_test true e = absurd (h ((Decides-eqb x y).0 e))
 
 seen_own : (ds : List Dt) (s : ℕ) (d : Dt) (args : List Cn) → s ≢ int_name → s ≢ string_name → datatype_of ds s ≡ Some d → length args ≡ (arity d) → seen_basic ds s args ≡ a_datatype d args
 seen_own ds s d args i t e l =

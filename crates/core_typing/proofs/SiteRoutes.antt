@@ -23,10 +23,10 @@ use Rattle.core_typing.specs.SiteLaws.{NoEntryBeginsAnother}
 some_is : {X : Type 0} {x y : X} → Some x ≡ Some y → x ≡ y
 some_is h = cc
 
-no_place : {X P : Type 0} {x : X} → None ≡ Some x → P
+pub no_place : {X P : Type 0} {x : X} → None ≡ Some x → P
 no_place h = cc
 
-place_of : {X : Type 0} (xs : List X) (x : X) → Contains xs x → (k : ℕ) × (slice_get xs k ≡ Some x)
+pub place_of : {X : Type 0} (xs : List X) (x : X) → Contains xs x → (k : ℕ) × (slice_get xs k ≡ Some x)
 place_of xs x c = (c.0, slice_get-get_or xs c.0 x c.1 ∙ ap (λ y. Some y) c.2)
 
 plain_at : (ts : List (List ℕ)) → AllByRecursion IsPlain ts → (i : ℕ) (t : List ℕ) → slice_get ts i ≡ Some t → IsPlain t

@@ -6,8 +6,7 @@ use Rattle.core_typing.specs.Declarations.{datatypes_before, scope_before, scope
 use Rattle.core_typing.specs.Tells.{DeclAt}
 
 -- The scope of a declaration of a program has what is declared before it, and no more; so cover is asked with the
--- datatypes
--- that are declared before it.
+-- datatypes that are declared before it.
 abbrev pub DeclarationsSeeWhatIsBefore : Type 0
 DeclarationsSeeWhatIsBefore = (p : Pg) (tops : List Cn) (ds : List Dt) (d : De)
     → DeclAt [] [] p.decls tops ds d

@@ -16,6 +16,7 @@ pub mod patterns;
 pub mod rows;
 pub mod tails;
 
+pub use boxes::{both, one_of, two_of};
 pub use con_rules::{build_con, build_kind};
 pub use parameters::args_start;
 pub use pat_rules::build_pat;

@@ -1,5 +1,6 @@
 -- The pieces of rows, and the first pair of them that isn't separated.
 use Rattle.std.proofs.Common.{◌≡◌, ℕ, ◌+◌, ◌<◌, ◌≤◌, List, [], ◌∷◌, ◌++◌, map, get_or, drop, vec_len, refl, ap, ◌∙◌, sym, subst, Bool, ◌||◌, true, false, Option, None, Result, Ok, Err, append_assoc, if◌then◌else◌}
+use mathlib.Core.Bool.{or-false}
 use Rattle.std.specs.Option.{option_or}
 use Rattle.std.proofs.lemmas.List.{map-append}
 use Rattle.std.proofs.lemmas.List.Folds.{find-append}
@@ -65,14 +66,10 @@ among_first p r a b x e h t = t ∙ sym (ap (λ y. among p (pieces y)) e ∙ amo
 pub among_second : (p r a b : Cn) (x y : Bool) → r ≡ cat a b → x ≡ among p (pieces a) → x ≡ false → y ≡ among p (pieces b) → y ≡ among p (pieces r)
 among_second p r a b x y e h t g = g ∙ sym (ap (λ y. among p (pieces y)) e ∙ among_append p (pieces a) (pieces b) ∙ ap (λ y. y || among p (pieces b)) (sym h ∙ t))
 
-or_none : (b : Bool) → (b || false) ≡ b
-or_none true = refl
-or_none false = refl
-
 -- an application that isn't a map has itself as its piece
 pub among_itself : (p r f x : Cn) (b m : Bool) → r ≡ app f x → m ≡ is_mapping f → m ≡ false → b ≡ cn_eq r p → b ≡ among p (pieces r)
 among_itself p r f x b m e h n g =
-    g ∙ sym (ap (λ y. among p (pieces y)) e ∙ ap (among p) (pieces_unmapped f x (sym h ∙ n)) ∙ or_none (cn_eq (app f x) p) ∙ ap (λ y. cn_eq y p) (sym e))
+    g ∙ sym (ap (λ y. among p (pieces y)) e ∙ ap (among p) (pieces_unmapped f x (sym h ∙ n)) ∙ or-false (cn_eq (app f x) p) ∙ ap (λ y. cn_eq y p) (sym e))
 
 -- the first pair among those of a `++`
 pub each_cat_err : (gs : Guards) (p r a b : Cn) → r ≡ cat a b → (e : DisjointFault) → Tells e (first_of gs (with_each p (pieces a))) → Tells e (first_of gs (with_each p (pieces r)))

@@ -1,8 +1,8 @@
 -- What is computed to be separated is separated: rows of which each pair of pieces is are apart.
-use Rattle.std.proofs.Common.{◌≡◌, ℕ, suc, List, [], ◌∷◌, refl, ap, arith, ◌∙◌, sym, subst, Bool, ◌&&◌, ◌||◌, not, true, false, Option, Some, None, if◌then◌else◌, ◌⊎◌, inl, inr}
+use Rattle.std.proofs.Common.{◌≡◌, ℕ, suc, List, [], ◌∷◌, refl, ap, arith, ◌∙◌, sym, subst, Bool, ◌&&◌, not, true, false, Option, Some, None, if◌then◌else◌, inl, inr}
 use Rattle.std.specs.List.{All, Contains}
 use Rattle.std.specs.Option.{option_or}
-use Rattle.std.proofs.lemmas.Bool.{eq-eqb}
+use Rattle.std.proofs.lemmas.Bool.{eq-eqb, or_cases}
 use Rattle.std.proofs.lemmas.List.Elements.{All-cons, All-nil, All-weaker}
 use Rattle.con_terms.specs.Trees.{Cn, name}
 use Rattle.con_terms.specs.Equal.{same}
@@ -20,22 +20,18 @@ contains_head x xs = (0, omega arith, refl)
 pub contains_tail : {X : Type 0} (x y : X) (xs : List X) → Contains xs x → Contains (y ∷ xs) x
 contains_tail x y xs (k, h, e) = (suc k, omega arith, e)
 
-one_true : (a b : Bool) → (a || b) ≡ true → (a ≡ true) ⊎ (b ≡ true)
-one_true true b h = inl refl
-one_true false b h = inr h
-
 -- what is among some is one of them
 among_contains : (p : Cn) (xs : List Cn) → among p xs ≡ true → Contains xs p
 among_contains p [] h = cc
 among_contains p (x ∷ xs) h =
-    elim (one_true (cn_eq x p) (among p xs) h) [
+    elim (or_cases (cn_eq x p) (among p xs) h) [
       | inl e ↦ let P : Cn → Type 0 = λ y. Contains (y ∷ xs) p in subst P (sym (cn_eq_same x p e)) (contains_head p xs)
       | inr e ↦ contains_tail p x xs (among_contains p xs e)
     ]
 
 guarded_one : (gs : Guards) (g : Cn × Cn) (p q : Cn) → Contains gs g → separated_by g p q ≡ true → KeptApart gs p q
 guarded_one gs g p q m h =
-    elim (one_true (among p (pieces g.0) && among q (pieces g.1)) _ h) [
+    elim (or_cases (among p (pieces g.0) && among q (pieces g.1)) _ h) [
       | inl e ↦ let (l, r) = both_from (among p (pieces g.0)) (among q (pieces g.1)) e in on_both_sides m (record { left = among_contains p (pieces g.0) l; right = among_contains q (pieces g.1) r })
       | inr e ↦ let (l, r) = both_from (among q (pieces g.0)) (among p (pieces g.1)) e in on_both_sides_turned m (record { left = among_contains q (pieces g.0) l; right = among_contains p (pieces g.1) r })
     ]
@@ -43,7 +39,7 @@ guarded_one gs g p q m h =
 guarded_some : (gs hs : Guards) (p q : Cn) → ((g : Cn × Cn) → Contains hs g → Contains gs g) → separated_by_some hs p q ≡ true → KeptApart gs p q
 guarded_some gs [] p q sub h = cc
 guarded_some gs (g ∷ hs) p q sub h =
-    elim (one_true (separated_by g p q) (separated_by_some hs p q) h) [
+    elim (or_cases (separated_by g p q) (separated_by_some hs p q) h) [
       | inl e ↦ guarded_one gs g p q (sub g (contains_head g hs)) e
       | inr e ↦ guarded_some gs hs p q (λ k m. sub k (contains_tail k g hs m)) e
     ]
@@ -71,7 +67,7 @@ literals_apart gs p q e g =
 -- what is computed to be separated is kept apart
 pub separates_keeps : (gs : Guards) (p q : Cn) → separates gs p q ≡ true → KeptApart gs p q
 separates_keeps gs p q h =
-    elim (one_true (both_literal p q && not (cn_eq p q)) (separated_by_some gs p q) h) [
+    elim (or_cases (both_literal p q && not (cn_eq p q)) (separated_by_some gs p q) h) [
       | inl e ↦ let (l, r) = both_from (both_literal p q) (not (cn_eq p q)) e in literals_apart gs p q l r
       | inr e ↦ guarded_some gs gs p q (λ k m. m) e
     ]
@@ -85,7 +81,7 @@ kept_separated gs p q (on_both_sides_turned m s) = by_guard_turned m (has_piece 
 pub separates_sound : (gs : Guards) (p q : Cn) → separates gs p q ≡ true → Separated gs p q
 separates_sound gs p q h = kept_separated gs p q (separates_keeps gs p q h)
 
-none_or : {X : Type 0} (o p : Option X) → option_or o p ≡ None → (o ≡ None) × (p ≡ None)
+pub none_or : {X : Type 0} (o p : Option X) → option_or o p ≡ None → (o ≡ None) × (p ≡ None)
 none_or None p h = (refl, h)
 none_or (Some x) p h = cc
 

@@ -1,8 +1,8 @@
 -- The pair that is computed is the first that nothing keeps apart.
-use Rattle.std.proofs.Common.{◌≡◌, ◌≢◌, ℕ, zero, suc, List, [], ◌∷◌, ◌++◌, refl, ap, arith, ◌∙◌, sym, subst, Bool, cond, ◌&&◌, ◌||◌, not, true, false, true≢false, Option, Some, None, append-nil}
+use Rattle.std.proofs.Common.{◌≡◌, ◌≢◌, ℕ, zero, suc, List, [], ◌∷◌, ◌++◌, refl, ap, arith, ◌∙◌, sym, subst, Bool, cond, ◌&&◌, not, true, false, true≢false, Option, Some, None, append-nil}
 use Rattle.std.specs.List.{All, Contains}
 use Rattle.std.specs.Option.{option_or}
-use Rattle.std.proofs.lemmas.Bool.{eqb-true}
+use Rattle.std.proofs.lemmas.Bool.{and_from, eqb-true, or_left, or_right}
 use Rattle.std.proofs.lemmas.List.Elements.{All-cons, All-head, All-nil, All-tail}
 use Rattle.con_terms.specs.Trees.{Cn, name}
 use Rattle.con_terms.specs.Apart.{Guards, both_literal, pieces}
@@ -17,43 +17,31 @@ use Rattle.disjoint_prover.specs.Touching.{AllKeptApart, KeptApart, Touches, dif
 use Rattle.disjoint_prover.proofs.Pieces.{first_append}
 use Rattle.disjoint_prover.proofs.Sound.{all_keep, each_keeps, separates_keeps}
 
-left_true : (a b : Bool) → a ≡ true → (a || b) ≡ true
-left_true true b h = refl
-left_true false b h = cc
-
-right_true : (a b : Bool) → b ≡ true → (a || b) ≡ true
-right_true true b h = refl
-right_true false b h = h
-
-two_true : (a b : Bool) → a ≡ true → b ≡ true → (a && b) ≡ true
-two_true true b h g = g
-two_true false b h g = cc
-
 -- one of some is among them
 contains_among : (p : Cn) (xs : List Cn) → Contains xs p → among p xs ≡ true
 contains_among p [] (k, h, e) = absurd (omega (arith, h))
-contains_among p (x ∷ xs) (zero, h, e) = left_true (cn_eq x p) (among p xs) (ap (λ y. cn_eq y p) e ∙ cn_eq_refl p)
-contains_among p (x ∷ xs) (suc k, h, e) = right_true (cn_eq x p) (among p xs) (contains_among p xs (k, omega (arith, h), e))
+contains_among p (x ∷ xs) (zero, h, e) = or_left (cn_eq x p) (among p xs) (ap (λ y. cn_eq y p) e ∙ cn_eq_refl p)
+contains_among p (x ∷ xs) (suc k, h, e) = or_right (cn_eq x p) (among p xs) (contains_among p xs (k, omega (arith, h), e))
 
 guard_found : (gs : Guards) (g : Cn × Cn) (p q : Cn) → Contains gs g → separated_by g p q ≡ true → separated_by_some gs p q ≡ true
 guard_found [] g p q (k, h, e) s = absurd (omega (arith, h))
-guard_found (x ∷ gs) g p q (zero, h, e) s = left_true (separated_by x p q) (separated_by_some gs p q) (ap (λ y. separated_by y p q) e ∙ s)
-guard_found (x ∷ gs) g p q (suc k, h, e) s = right_true (separated_by x p q) (separated_by_some gs p q) (guard_found gs g p q (k, omega (arith, h), e) s)
+guard_found (x ∷ gs) g p q (zero, h, e) s = or_left (separated_by x p q) (separated_by_some gs p q) (ap (λ y. separated_by y p q) e ∙ s)
+guard_found (x ∷ gs) g p q (suc k, h, e) s = or_right (separated_by x p q) (separated_by_some gs p q) (guard_found gs g p q (k, omega (arith, h), e) s)
 
 other_names : (s t : ℕ) → s ≢ t → not (cn_eq (name s) (name t)) ≡ true
 other_names s t h = cases_bool (cn_eq (name s) (name t)) (λ e. absurd (h (eqb-true s t e))) (λ e. ap not e)
 
 -- what is kept apart is computed to be separated
 kept_separates : (gs : Guards) (p q : Cn) → KeptApart gs p q → separates gs p q ≡ true
-kept_separates gs p q (different_names {s = s} {t = t} h) = left_true (not (cn_eq (name s) (name t))) (separated_by_some gs (name s) (name t)) (other_names s t h)
+kept_separates gs p q (different_names {s = s} {t = t} h) = or_left (not (cn_eq (name s) (name t))) (separated_by_some gs (name s) (name t)) (other_names s t h)
 kept_separates gs p q (on_both_sides {g = g} m s) =
-    right_true (both_literal p q && not (cn_eq p q)) (separated_by_some gs p q)
-    (guard_found gs g p q m (left_true (among p (pieces g.0) && among q (pieces g.1)) (among q (pieces g.0) && among p (pieces g.1))
-    (two_true (among p (pieces g.0)) (among q (pieces g.1)) (contains_among p (pieces g.0) s.left) (contains_among q (pieces g.1) s.right))))
+    or_right (both_literal p q && not (cn_eq p q)) (separated_by_some gs p q)
+    (guard_found gs g p q m (or_left (among p (pieces g.0) && among q (pieces g.1)) (among q (pieces g.0) && among p (pieces g.1))
+    (and_from (among p (pieces g.0)) (among q (pieces g.1)) (contains_among p (pieces g.0) s.left) (contains_among q (pieces g.1) s.right))))
 kept_separates gs p q (on_both_sides_turned {g = g} m s) =
-    right_true (both_literal p q && not (cn_eq p q)) (separated_by_some gs p q)
-    (guard_found gs g p q m (right_true (among p (pieces g.0) && among q (pieces g.1)) (among q (pieces g.0) && among p (pieces g.1))
-    (two_true (among q (pieces g.0)) (among p (pieces g.1)) (contains_among q (pieces g.0) s.left) (contains_among p (pieces g.1) s.right))))
+    or_right (both_literal p q && not (cn_eq p q)) (separated_by_some gs p q)
+    (guard_found gs g p q m (or_right (among p (pieces g.0) && among q (pieces g.1)) (among q (pieces g.0) && among p (pieces g.1))
+    (and_from (among q (pieces g.0)) (among p (pieces g.1)) (contains_among q (pieces g.0) s.left) (contains_among p (pieces g.1) s.right))))
 
 not_kept : (gs : Guards) (p q : Cn) → (KeptApart gs p q → ⊥) → separates gs p q ≡ false
 not_kept gs p q h = cases_bool (separates gs p q) (λ t. absurd (h (separates_keeps gs p q t))) (λ e. e)

@@ -1,20 +1,9 @@
 -- What holds of Booleans, and of what is asked of each of a list.
-use Rattle.std.proofs.Common.{◌≡◌, ◌<◌, ℕ, List, [], ◌∷◌, refl, sym, subst, arith, Bool, true, false, not, ◌&&◌, ◌||◌, ◌⊎◌, nat_lt}
+use Rattle.std.proofs.Common.{◌≡◌, List, [], ◌∷◌, refl, sym, subst, Bool, true, false, not, ◌&&◌, ◌||◌}
 use Rattle.std.proofs.Math.Logic.{inl, inr}
 use Rattle.surface_grammar.specs.declared.rule.Rule.{Rule}
 use Rattle.surface_grammar.specs.Trees.{IsIn}
-
-pub and_left : (a b : Bool) → (a && b) ≡ true → a ≡ true
-and_left true b h = refl
-and_left false b h = cc
-
-pub and_right : (a b : Bool) → (a && b) ≡ true → b ≡ true
-and_right true b h = h
-and_right false b h = cc
-
-pub or_first : (a b : Bool) → a ≡ true → (a || b) ≡ true
-or_first true b h = refl
-or_first false b h = cc
+pub use Rattle.surface_grammar.proofs.Bools.{and_left, and_right}
 
 pub or_split : {A : Type 0} (b c : Bool) → (b || c) ≡ true → (b ≡ true → A) → (c ≡ true → A) → A
 or_split true c h l r = l refl
@@ -37,13 +26,6 @@ clash false e i = cc
 pub no_tag : {A : Type 0} (b : Bool) → not b ≡ true → b ≡ true → A
 no_tag true k i = cc
 no_tag false k i = cc
-
-pub by_cases : (b : Bool) → (b ≡ true) ⊎ (b ≡ false)
-by_cases true = inl refl
-by_cases false = inr refl
-
-pub less : (a b : ℕ) → nat_lt a b ≡ true → a < b
-less a b h = search (arith, h)
 
 abbrev pub every : {A : Type 0} → (A → Bool) → List A → Bool
 every p [] = true

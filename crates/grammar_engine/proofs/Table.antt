@@ -15,3 +15,5 @@ pub mod Least
 pub mod Levels
 -- `read_whole`: `exact`: a text has no element around it
 pub mod Naming
+-- `read_part`: the option that need not be taken with the token that begins it
+pub mod Colons

@@ -89,9 +89,8 @@ abbrev pub WayShut : List Token → Form → Kind → ℕ → ℕ → ℕ → �
 WayShut items g y at room races far = (t : Through items (One g) at room races far) → first_kind t.tail ≡ Some y → ⊥
 
 -- what was seen beside tells the rule from the other that the token begins: of an expression, whether a pattern and
--- `<-`
--- stand here; in braces of a query that begin with `[`, whether `]` is next. Without room a binding and a splice have
--- no tree
+-- `<-` stand here; in braces of a query that begin with `[`, whether `]` is next. Without room a binding and a splice
+-- have no tree
 abbrev pub BindSure : List Token → Rule → ℕ → ℕ → ℕ → ℕ → Type 0
 BindSure items (r.Exp exp.ExpBind) room races at far = (0 < room) × WayOpen items f.Pat k.LeftArrow at far
 BindSure items (r.Exp exp.ExpPlain) room races at far =

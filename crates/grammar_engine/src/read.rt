@@ -204,7 +204,7 @@ fn is_bind(
 
 /// Whether an option of the form is taken.
 #[cycle(read)]
-#[tactic(auto, unfolding(surface_grammar::specs::Firsts::first_of))]
+#[tactic(auto, using(crate::proofs::Table::Colons::colons_begin, crate::proofs::Table::Colons::colons_may_end))]
 fn goes_on(
     machine: &mut Machine,
     alloc: Global,

@@ -6,10 +6,7 @@ use Rattle.kind_rules.specs.Compared.{comparison_units}
 use Rattle.kind_rules.specs.Flaws.{Flw}
 use Rattle.guided_terms.specs.Examples.{with_name, RestKeepsItsOrder}
 use Rattle.guided_terms.specs.Matching.{IsNamed, named, this_field, later_field, a_literal, the_unknown, no_other, for_unknown, open_part, an_unknown, a_record, some_row, no_field, a_field, another}
-
--- what two forms that are one are
-both_are : {x y : Cn × Cn} → ◌≡◌ {A = Result (Cn × Cn) Flw} (Ok x) (Ok y) → x ≡ y
-both_are e = cc
+use Rattle.core_typing.proofs.Normal.{pairs_are as both_are}
 
 names_differ : {f : Cn} → name 0 ≡ f → name 1 ≡ f → ⊥
 names_differ d e = cc

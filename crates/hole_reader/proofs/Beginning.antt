@@ -2,6 +2,7 @@
 use Rattle.std.proofs.Common.{◌≡◌, ◌<◌, ◌≤◌, ◌+◌, ◌-◌, ℕ, suc, max, List, [], ◌∷◌, ◌++◌, length, drop, append_assoc, refl, ap, sym, ◌∙◌, subst, arith, true, false, Option, Some, None}
 use Rattle.std.proofs.lemmas.List.{length-drop, length-append}
 use Rattle.std.proofs.Math.Logic.{inl, inr}
+use Rattle.std.proofs.lemmas.Bool.{and_from}
 use Rattle.surface_tree.specs.declared.kind.Kind.{Kind}
 use Rattle.surface_tree.specs.declared.kind.Kind.TheVariants as k
 use Rattle.surface_tree.specs.declared.token.Token.{Token}
@@ -27,7 +28,7 @@ use Rattle.grammar_engine.specs.Leaving.{outer_all}
 use Rattle.grammar_engine.specs.Moves.{MeetsPart}
 use Rattle.grammar_engine.specs.Places.{name_at}
 use Rattle.grammar_engine.proofs.Keeping.Allowing.{Ready, inside, token_at, begins_at, among_none}
-use Rattle.grammar_engine.proofs.Short.Calm.{nexts, behind, calm, shortest, fill_wants, parts_of, and_both}
+use Rattle.grammar_engine.proofs.Short.Calm.{nexts, behind, calm, shortest, fill_wants, parts_of}
 use Rattle.grammar_engine.proofs.Short.Filling.{short, short_fits, front_wants, filled}
 use Rattle.grammar_engine.proofs.Keeping.Going.{goes_at}
 use Rattle.grammar_engine.proofs.Trees.Leading.{node_led}
@@ -155,7 +156,7 @@ pub record State (items : List Token) (whole : Want) (handed : List Listing) (at
 first_state : (items : List Token) (whole : Want) → State items whole [] whole.tag whole.tag (whole ∷ [])
 first_state items whole = record {
   ready = record {
-    quiet = λ x ok. and_both (every (behind whole.part) (x ∷ [])) true (and_both (behind whole.part x) true (first_quiet whole.part x ok) refl) refl;
+    quiet = λ x ok. and_from (every (behind whole.part) (x ∷ [])) true (and_from (behind whole.part x) true (first_quiet whole.part x ok) refl) refl;
     roomy = tt;
     come = begins_at items whole.part whole.tag whole.room;
     farther = begins_at items whole.part whole.tag whole.room;

@@ -1,5 +1,6 @@
 -- A tree stays one where another token that may follow its form stands behind it.
 use Rattle.std.proofs.Common.{◌≡◌, ℕ, List, [], ◌∷◌, ◌++◌, refl, ap, sym, ◌∙◌, subst, true, false, not, ◌&&◌, Option}
+use Rattle.std.proofs.lemmas.Bool.{not-true}
 use Rattle.surface_tree.specs.declared.kind.Kind.{Kind}
 use Rattle.surface_tree.specs.declared.token.Token.{Token}
 use Rattle.surface_tree.specs.declared.token.Content.{Content}
@@ -9,7 +10,7 @@ use Rattle.surface_grammar.specs.declared.part.Part.TheVariants.{Word, One, Many
 use Rattle.surface_grammar.specs.Sides.{bars_of}
 use Rattle.surface_grammar.specs.Table.{body_of}
 use Rattle.surface_grammar.specs.Trees.{Node, leaf, branch, several, absent, present, Nodes, none, more, spell, spell_all, front, among, must_go_on, Fits, FitsAll, FitsEach}
-use Rattle.grammar_engine.proofs.Short.Calm.{nexts, follows, behind, calm, not_true, calm_some}
+use Rattle.grammar_engine.proofs.Short.Calm.{nexts, follows, behind, calm, calm_some}
 use Rattle.grammar_engine.proofs.Table.Decided.{rule_solid}
 use Rattle.grammar_engine.proofs.Short.Filling.{rule_calm, follows_one}
 use Rattle.grammar_engine.proofs.Trees.Leading.{node_led, nodes_led}
@@ -67,7 +68,7 @@ mutual
   refollow absent (Word w) room name x y f h = absurd f
   refollow absent (One g) room name x y f h = absurd f
   refollow absent (Many g) room name x y f h = absurd f
-  refollow absent (Maybe g) room name x y f h = not_true (must_go_on g y) (and_right (follows g y) (not (must_go_on g y)) h)
+  refollow absent (Maybe g) room name x y f h = not-true (must_go_on g y) (and_right (follows g y) (not (must_go_on g y)) h)
   refollow (present n) (Word w) room name x y f h = absurd f
   refollow (present n) (One g) room name x y f h = absurd f
   refollow (present n) (Many g) room name x y f h = absurd f
@@ -84,7 +85,7 @@ mutual
   )
 
   refollow_each : (ns : Nodes) (g : Form) (room : ℕ) (name : Content) (x y : Option Kind) → FitsEach room name ns g x → (follows g y && not (must_go_on g y)) ≡ true → FitsEach room name ns g y
-  refollow_each none g room name x y f h = not_true (must_go_on g y) (and_right (follows g y) (not (must_go_on g y)) h)
+  refollow_each none g room name x y f h = not-true (must_go_on g y) (and_right (follows g y) (not (must_go_on g y)) h)
   refollow_each (more n ns) g room name x y f h = (
     at_front (spell_all ns) (λ z. Fits room name n (One g) z) x y f.0 (λ e a. refollow n (One g) room name x y a (and_left (follows g y) (not (must_go_on g y)) h)),
     refollow_each ns g room name x y f.1 h,

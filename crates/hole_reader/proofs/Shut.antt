@@ -1,5 +1,6 @@
 -- The open form stands in constructors alone.
 use Rattle.std.proofs.Common.{◌≡◌, ℕ, List, [], ◌∷◌, ◌++◌, refl, sym, subst, Bool, true, false, not, ◌&&◌, ◌||◌, None}
+use Rattle.std.proofs.lemmas.Bool.{and_from}
 use Rattle.surface_tree.specs.declared.token.Token.{Token}
 use Rattle.surface_grammar.specs.declared.form.Form.{Form}
 use Rattle.surface_grammar.specs.declared.form.Form.TheVariants as f
@@ -13,7 +14,7 @@ use Rattle.surface_grammar.specs.Trees.{IsIn}
 use Rattle.grammar_engine.specs.declared.machine.Machine.{Machine}
 use Rattle.grammar_engine.specs.declared.want.Want.{Want}
 use Rattle.grammar_engine.specs.Moves.{goes_by, MeetsPart}
-use Rattle.grammar_engine.proofs.Short.Calm.{and_both, parts_of}
+use Rattle.grammar_engine.proofs.Short.Calm.{parts_of}
 use Rattle.grammar_engine.proofs.Keeping.Passed.{want}
 use Rattle.grammar_engine.proofs.Keeping.Readies.{parts_append}
 use Rattle.hole_reader.specs.Holes.{hole_of, is_hole, is_open_part}
@@ -43,7 +44,7 @@ rule_shut g q e i = every_in is_shut (rules_of g) q (or_false (is_hole g) (every
 
 shut_append : (ps qs : List Part) → all_shut ps ≡ true → all_shut qs ≡ true → all_shut (ps ++ qs) ≡ true
 shut_append [] qs h k = k
-shut_append (p ∷ ps) qs h k = and_both (not (is_open_part p)) (all_shut (ps ++ qs)) (and_left (not (is_open_part p)) (all_shut ps) h) (shut_append ps qs (and_right (not (is_open_part p)) (all_shut ps) h) k)
+shut_append (p ∷ ps) qs h k = and_from (not (is_open_part p)) (all_shut (ps ++ qs)) (and_left (not (is_open_part p)) (all_shut ps) h) (shut_append ps qs (and_right (not (is_open_part p)) (all_shut ps) h) k)
 
 shut_goes : (b : Bool) (g : Form) (room tag : ℕ) (rest : List Want) (a c : Machine) → goes_by b g room tag rest a c → all_shut (parts_of (want (One g) room tag ∷ rest ++ a.wants)) ≡ true → all_shut (parts_of a.wants) ≡ true → all_shut (parts_of c.wants) ≡ true
 shut_goes true g room tag rest a c by on off = subst (λ l. all_shut (parts_of l) ≡ true) (sym by.0) on
@@ -61,7 +62,7 @@ shut_met items (Maybe g) room tag a c skips s h =
 
 -- so reading comes to it only in a part of that form
 pub comes_shut : (items : List Token) (whole : Want) (handed : List Listing) (at far : ℕ) (tree : Listing) (ws : List Want) → is_open_part whole.part ≡ false → Comes items whole handed at far tree ws → all_shut (parts_of ws) ≡ true
-comes_shut items whole handed at far tree ws e (begun first leaves marks) = and_both (not (is_open_part whole.part)) true (negated (is_open_part whole.part) e) refl
+comes_shut items whole handed at far tree ws e (begun first leaves marks) = and_from (not (is_open_part whole.part)) true (negated (is_open_part whole.part) e) refl
   where
     negated : (b : Bool) → b ≡ false → not b ≡ true
     negated true i = cc

@@ -1,13 +1,13 @@
 -- Pieces, one after another.
-use Rattle.std.proofs.Common.{◌≡◌, ℕ, suc, ◌+◌, ◌<◌, ◌≤◌, Bool, true, false, List, [], ◌∷◌, ◌++◌, length, map, get_or, drop, Option, Some, None, option_map, if◌then◌else◌, refl, ap, arith, ◌∙◌, sym, drop-cons, drop_of_length-le}
+use Rattle.std.proofs.Common.{◌≡◌, ℕ, ◌+◌, ◌<◌, ◌≤◌, Bool, true, false, List, [], ◌∷◌, ◌++◌, length, map, get_or, drop, Option, Some, None, option_map, if◌then◌else◌, refl, ap, ◌∙◌, sym, drop_of_length-le}
 use Rattle.std.proofs.lemmas.List.{append_assoc, append-nil}
 use Rattle.con_terms.specs.Trees.{Cn, con_list}
-use Rattle.con_terms.specs.View.{con_tree, cons_tree}
+use Rattle.con_terms.specs.View.{con_tree}
 use Rattle.con_terms.specs.declared.con.Con.{Con}
 use Rattle.con_terms.specs.declared.con.Cons.{Cons}
 use Rattle.std.specs.Global.{Vec}
 use Rattle.con_terms.specs.declared.con.Con.TheViews.{out-Cons, roll-Cons}
-use Rattle.con_terms.proofs.Lists.{cons_listed, cons_tree-roll, con_list_from}
+use Rattle.con_terms.proofs.Lists.{cons_tree-roll, con_list_from}
 use Rattle.row_normal.specs.SameTree.{cn_eq}
 use Rattle.core_typing.specs.Compared.{behind, field_or, value_of, field_of, without_piece}
 use Rattle.core_terms.specs.View.{maybe_con}
@@ -16,18 +16,14 @@ use Rattle.judgements.specs.declared.pieces.Taking.{Taking}
 use Rattle.judgements.specs.declared.pieces.Leaving.{Leaving}
 use Rattle.judgements.specs.Pieces.{none_taken, none_left}
 use Rattle.judgements.specs.Pieces.{Tg, all_behind, taking_by, taking, one_more, met, take_one, Lv, all_before, leaving_by, leaving, left_by, unless_met, leave_one}
-
-open_at : {X : Type 0} (xs : List X) (i : ℕ) (x : X) → x ≡ get_or xs i x → i < length xs → drop i xs ≡ x ∷ drop (i + 1) xs
-open_at xs i x e h = drop-cons xs i x h ∙ ap (λ y. y ∷ drop (suc i) xs) (sym e) ∙ ap (λ n. x ∷ drop n xs) (let p : suc i ≡ i + 1 = omega arith in p)
+pub use Rattle.con_terms.proofs.Lists.{cons_listed as pieces_are}
+use Rattle.row_normal.proofs.Coded.{open_at}
 
 pub pieces_next : (xs : List Con) (i : ℕ) (x : Con) → x ≡ get_or xs i x → i < length xs → map con_tree (drop i xs) ≡ con_tree x ∷ map con_tree (drop (i + 1) xs)
 pieces_next xs i x e h = ap (map con_tree) (open_at xs i x e h)
 
 pub pieces_end : (xs : List Con) (i : ℕ) → length xs ≤ i → map con_tree (drop i xs) ≡ []
 pieces_end xs i h = ap (map con_tree) (drop_of_length-le xs h)
-
-pub pieces_are : (cs : Cons) → con_list (cons_tree cs) ≡ map con_tree (out-Cons cs).items.items
-pieces_are cs = cons_listed cs
 
 -- the field of a name
 behind_last : (past : List Cn) (p : Cn) (r : Option (Cn × List Cn)) → all_behind (past ++ p ∷ []) r ≡ all_behind past (behind p r)

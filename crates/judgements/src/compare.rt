@@ -17,7 +17,7 @@ use crate::called::names_called;
 use crate::globals::Globals;
 use crate::scope::Here;
 use con_terms::{Con, Kind, Place, copy_con, copy_kind, has_room, subst};
-use kind_rules::compare::{comparison_fuel, flaw_between};
+use kind_rules::{comparison_fuel, flaw_between};
 use row_normal::normal::normal;
 use row_normal::{Fuel, Normal, NormalFault, same_con};
 use std::alloc::{AllocError, Global};

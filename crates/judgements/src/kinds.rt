@@ -12,8 +12,7 @@ use crate::called::names_called;
 use crate::globals::Globals;
 use crate::scope::Here;
 use con_terms::{Con, Kind, Place};
-use kind_rules::flaw::Flaw;
-use kind_rules::kinding::judge_at;
+use kind_rules::{Flaw, judge_at};
 use std::alloc::{AllocError, Global};
 use type_faults::{Fault, flaw_fault};
 

@@ -20,6 +20,6 @@ pub use globals::{Globals, constructor_named, datatype_named, folder_named};
 pub use heads::{head_of_record, no_record, other_form};
 pub use judged::{Bound, Judged, faulty, neither, of_name, typed};
 pub use kinds::{flaw_at, has_kind, kind_flaw};
-pub use locals::{Locals, with_local};
+pub use locals::{Locals, look_up, with_local};
 pub use pieces::{Taken, pieces_of, row_of_rest, take_field, without_pieces};
 pub use scope::{Here, local_type, top_type, under_con, under_guard, with_locals};

@@ -12,7 +12,7 @@ use crate::compare::copied;
 use crate::globals::Globals;
 use crate::locals::{Locals, look_up};
 use con_terms::{Con, Kind, Sym};
-use kind_rules::scope::Scope;
+use kind_rules::Scope;
 use row_normal::Normal;
 use std::alloc::{AllocError, Global};
 use std::rc::Rc;

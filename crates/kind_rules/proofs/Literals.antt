@@ -1,5 +1,6 @@
 -- Literal names that differ are apart, whatever is assumed.
 use Rattle.std.proofs.Common.{◌≡◌, ℕ, ◌+◌, ◌<◌, ◌≤◌, Bool, true, false, IsTrue, ◌&&◌, ◌||◌, not, ◌==◌, List, [], ◌∷◌, ◌++◌, map, take, get_or, vec_len, Some, None, Ok, if◌then◌else◌, refl, ap, sym, ◌∙◌, arith, rules}
+use Rattle.std.proofs.lemmas.Bool.{not-true}
 use Rattle.std.proofs.lemmas.List.{map-append, take_more}
 use Rattle.std.specs.List.{IsDistinct, AllByRecursion}
 use Rattle.std.specs.Option.{option_or}
@@ -46,11 +47,7 @@ name_tree s = search (rules, the_lemmas)
 
 pub two_literals : (gs : Guards) (a b : Cn) (s t : ℕ) → a ≡ name s → b ≡ name t → IsTrue (not (s == t)) → not_apart gs a b ≡ None
 two_literals gs a b s t e i h =
-    ap (λ x. not_apart gs x b) e ∙ ap (λ y. not_apart gs (name s) y) i ∙ different_apart gs s t (differs (s == t) h)
-  where
-    differs : (x : Bool) → IsTrue (not x) → x ≡ false
-    differs true g = let e : false ≡ true = g in cc
-    differs false g = refl
+    ap (λ x. not_apart gs x b) e ∙ ap (λ y. not_apart gs (name s) y) i ∙ different_apart gs s t (not-true (s == t) h)
 
 names_from : (xs : List (Cn × Cn)) → names_of (pairs_from xs) ≡ map (λ (p : Cn × Cn). p.0) xs
 names_from [] = refl

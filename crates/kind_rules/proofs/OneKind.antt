@@ -1,10 +1,8 @@
 -- A constructor has one kind only.
-use Rattle.std.proofs.Common.{◌≡◌, ℕ, Option, Some, slice_get, refl, ap, sym, ◌∙◌}
+use Rattle.std.proofs.Common.{◌≡◌, ℕ, Some, slice_get, refl, ap, sym, ◌∙◌}
+use Rattle.std.proofs.lemmas.Option.{same_Some}
 use Rattle.con_terms.specs.Trees.{Kd, to, tuple_of, Kds, kind, kind_list, Cn, Cns}
-use Rattle.con_terms.specs.Kinded.{Scope, basic_kind, Kinded, of_var, of_basic, of_arrow, of_poly, of_guarded, of_record, of_app, of_lambda, of_unit, of_name, of_row, of_cat, of_map, of_tuple, of_proj, KindedAll, no_components, a_component}
-
-same_some : {X : Type 0} (o : Option X) (x y : X) → o ≡ Some x → o ≡ Some y → x ≡ y
-same_some o x y e h = cc
+use Rattle.con_terms.specs.Kinded.{Scope, Kinded, of_var, of_basic, of_arrow, of_poly, of_guarded, of_record, of_app, of_lambda, of_unit, of_name, of_row, of_cat, of_map, of_tuple, of_proj, KindedAll, no_components, a_component}
 
 result_of : (k l m n : Kd) → to k l ≡ to m n → l ≡ n
 result_of k l m n e = cc
@@ -12,12 +10,12 @@ result_of k l m n e = cc
 same_at : (ks ls : Kds) (n : ℕ) (k l : Kd) → tuple_of ks ≡ tuple_of ls → slice_get (kind_list ks) n ≡ Some k → slice_get (kind_list ls) n ≡ Some l → k ≡ l
 same_at ks ls n k l e h g =
     let s : ks ≡ ls = cc in
-    same_some (slice_get (kind_list ls) n) k l (ap (λ z. slice_get (kind_list z) n) (sym s) ∙ h) g
+    same_Some k l (sym h ∙ ap (λ z. slice_get (kind_list z) n) s ∙ g)
 
 mutual
   pub one_kind : {G : Scope} {c : Cn} {k l : Kd} → Kinded G c k → Kinded G c l → k ≡ l
-  one_kind (of_var {G} {i} {k} e) (of_var {k = l} h) = same_some (slice_get G.binders i) k l e h
-  one_kind (of_basic {G} {s} {k} e) (of_basic {k = l} h) = same_some (basic_kind G.basics s) k l e h
+  one_kind (of_var {G} {i} {k} e) (of_var {k = l} h) = same_Some k l (sym e ∙ h)
+  one_kind (of_basic {G} {s} {k} e) (of_basic {k = l} h) = same_Some k l (sym e ∙ h)
   one_kind (of_arrow _ _) (of_arrow _ _) = refl
   one_kind (of_poly _) (of_poly _) = refl
   one_kind (of_guarded _ _ _) (of_guarded _ _ _) = refl

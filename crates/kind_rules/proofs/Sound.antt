@@ -1,6 +1,5 @@
 -- A constructor has the kind that is found for it.
 use Rattle.std.proofs.Common.{◌≡◌, ℕ, Bool, true, false, List, [], ◌∷◌, Option, Some, None, Result, Ok, Err, slice_get, if◌then◌else◌, refl, ap, sym, ◌∙◌, subst, All}
-use Rattle.std.specs.Option.{option_or}
 use Rattle.std.proofs.lemmas.List.Elements.{All-cons, All-nil}
 use Rattle.con_terms.specs.Trees.{Kd, types, units, names, row_of, to, tuple_of, Kds, kind_list, Cn, var, basic, arrow, poly, guarded, record_of, app, lambda, unit_con, name, row, cat, map_of, tuple, proj, Cns, no_cons, con, Prs, no_pairs, pair, names_of}
 use Rattle.con_terms.specs.Same.{kd_eq}
@@ -10,7 +9,7 @@ use Rattle.con_terms.specs.Apart.{Guards, Apart, apart, PairwiseApart}
 use Rattle.con_terms.specs.Kinded.{Scope, basic_kind, bind, assume, Kinded, of_var, of_basic, of_arrow, of_poly, of_guarded, of_record, of_app, of_lambda, of_unit, of_name, of_row, of_cat, of_map, of_tuple, of_proj, KindedAll, no_components, a_component, KindedPairs, no_fields, a_field}
 use Rattle.con_terms.proofs.SameKinds.{kd_eq_same}
 use Rattle.disjoint_prover.specs.Separation.{first_touch}
-use Rattle.disjoint_prover.proofs.Sound.{touch_sound}
+use Rattle.disjoint_prover.proofs.Sound.{none_or, touch_sound}
 use Rattle.row_normal.specs.NormalForm.{nf}
 use Rattle.kind_rules.specs.Flaws.{Flw, kinds_differ, too_large}
 use Rattle.kind_rules.specs.Compared.{comparison_units, with_second, with_first, normal_forms, touch_flaw, forms_flaw, not_apart, not_apart_from, not_pairwise_apart}
@@ -36,10 +35,6 @@ unless_ok (Some e) x y h = cc
 or_flaw_ok : {X : Type 0} (e : Flw) (o : Option X) (x : X) → or_flaw e o ≡ Ok x → o ≡ Some x
 or_flaw_ok e None x h = cc
 or_flaw_ok e (Some y) x h = cc
-
-none_or : {X : Type 0} (o p : Option X) → option_or o p ≡ None → (o ≡ None) × (p ≡ None)
-none_or None p h = (refl, h)
-none_or (Some x) p h = cc
 
 tested : (b : Bool) (e : Flw) → (if b then None else Some e) ≡ None → b ≡ true
 tested true e h = refl

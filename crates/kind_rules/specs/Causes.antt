@@ -1,6 +1,5 @@
--- What a refusal rests on that tells two pieces, or that a comparison is too large: a part of the constructor that
--- asks for the
--- comparison, in the scope in which that part stands.
+-- What a refusal rests on that tells two pieces, or that a comparison is too large: a part of the constructor that asks
+-- for the comparison, in the scope in which that part stands.
 use Rattle.std.specs.Prelude.{◌≡◌, ℕ, ◌<◌, ◌⊎◌, Bool, List, ◌∷◌, Some, None, Ok}
 use Rattle.std.specs.List.{Contains}
 use Rattle.con_terms.specs.Trees.{Kd, Cn, arrow, poly, guarded, record_of, app, lambda, row, cat, tuple, proj, Cns, con, Prs, pair, names_of}
@@ -76,8 +75,7 @@ abbrev pub IsRefused : ℕ → Cn → Cn → Type 0
 IsRefused units a b = (nf units a ≡ None) ⊎ ((m : Cn) × (left : ℕ) × (nf units a ≡ Some (m, left)) × (nf left b ≡ None))
 
 -- one of these parts has two sides that have to be apart, and p and q are the first two pieces of their normal forms
--- that
--- nothing separates where the part stands
+-- that nothing separates where the part stands
 pub record TouchAmong (Part : Scope → Cn → Type 0) (p q : Cn) : Type 0 where
   pub scope : Scope
   pub whole : Cn

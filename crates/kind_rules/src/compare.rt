@@ -15,14 +15,11 @@ ghost use Rattle.row_normal.specs.View.{normal_tree};
 
 use crate::flaw::Flaw;
 use crate::scope::Scope;
-use con_terms::con::{Con, Pairs};
-use con_terms::kind::Kind;
-use disjoint_prover::fault::DisjointFault;
-use disjoint_prover::guards::Guards;
-use disjoint_prover::prover::disjoint;
+use con_terms::{Con, Kind, Pairs};
+use disjoint_prover::{DisjointFault, Guards, disjoint};
 use indexmap::IndexSet;
-use row_normal::form::Normal;
-use row_normal::normal::{Fuel, NormalFault, normal, same};
+use row_normal::normal::{normal, same};
+use row_normal::{Fuel, Normal, NormalFault};
 use std::alloc::{AllocError, Global};
 
 /// How many units both sides of one comparison have together.

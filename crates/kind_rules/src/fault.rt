@@ -5,8 +5,7 @@ ghost use Rattle.kind_rules.specs.View.{flaw_tree};
 ghost use Rattle.kind_rules.specs.Faults.{Refuses};
 
 use crate::flaw::{Differing, Flaw};
-use con_terms::kind::Kind;
-use con_terms::place::Place;
+use con_terms::{Kind, Place};
 use disjoint_prover::fault::Pieces;
 use std::alloc::AllocError;
 use std::fmt;

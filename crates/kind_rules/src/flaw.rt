@@ -6,8 +6,7 @@ ghost use Rattle.kind_rules.specs.Rules.{both as found_both, expects as expected
 ghost use Rattle.kind_rules.specs.Flaws.{kinds_differ};
 ghost use Rattle.kind_rules.specs.View.{flaw_tree, found, maybe_flaw, two_trees};
 
-use con_terms::kind::{Kind, copy_kind, same_kind};
-use con_terms::symbol::Sym;
+use con_terms::{Kind, Sym, copy_kind, same_kind};
 use disjoint_prover::fault::Pieces;
 use std::alloc::{AllocError, Global};
 

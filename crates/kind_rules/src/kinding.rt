@@ -18,11 +18,8 @@ use crate::rules::{
     of_tuple,
 };
 use crate::scope::{Scope, kind_of_basic, kind_of_variable};
-use con_terms::con::{Con, Cons, Pairs};
-use con_terms::kind::Kind;
-use con_terms::place::Place;
-use con_terms::size::fits;
-use row_normal::normal::DEPTH;
+use con_terms::{Con, Cons, Kind, Pairs, Place, fits};
+use row_normal::DEPTH;
 use std::alloc::{AllocError, Global};
 
 /// The kind of a constructor that stands at a place, or why it has none.

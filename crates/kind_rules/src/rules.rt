@@ -9,8 +9,7 @@ ghost use Rattle.kind_rules.specs.View.{found, kind_trees, maybe_flaw, pair_tree
 use crate::compare::{Sides, flaw_among, flaw_between, normal_sides};
 use crate::flaw::{Flaw, Two, both, compared, expects, mismatch, unless};
 use crate::scope::Scope;
-use con_terms::con::{Con, Pairs};
-use con_terms::kind::{Kind, Kinds, copy_kind};
+use con_terms::{Con, Kind, Kinds, Pairs, copy_kind};
 use std::alloc::{AllocError, Global};
 
 /// `{k}`

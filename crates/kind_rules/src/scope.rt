@@ -16,14 +16,9 @@ ghost use Rattle.kind_rules.specs.View.{basic_tree, entered, found, layers_view,
 ghost use Rattle.row_normal.specs.View.{normal_tree};
 
 use crate::flaw::Flaw;
-use con_terms::con::Con;
-use con_terms::copy::copy_con;
-use con_terms::kind::{Kind, copy_kind};
-use con_terms::size::has_room;
-use con_terms::substitute::shift;
-use con_terms::symbol::Sym;
-use disjoint_prover::guards::{Guards, Sides};
-use row_normal::form::Normal;
+use con_terms::{Con, Kind, Sym, copy_con, copy_kind, has_room, shift};
+use disjoint_prover::{Guards, Sides};
+use row_normal::Normal;
 use std::alloc::{AllocError, Global};
 use std::rc::Rc;
 

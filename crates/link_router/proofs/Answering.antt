@@ -10,6 +10,7 @@ use Rattle.link_router.specs.View.{call_view}
 use Rattle.link_router.specs.declared.call.Call.{Call}
 use Rattle.link_router.specs.declared.router.LinkFault.{LinkFault}
 use Rattle.link_router.specs.declared.router.LinkFault.TheVariants.{NoRoute, OtherMethod, BadPiece, TooFewPieces, TooManyPieces, Memory}
+use Rattle.link_router.proofs.Listed.{one_value}
 use Rattle.link_router.proofs.OneCall.{route_read, read_route, one_call}
 use Rattle.link_router.proofs.OneRefusal.{one_refusal, refused_or_read, listed_at}
 use Rattle.link_router.proofs.Sent.{listed_in}
@@ -41,13 +42,10 @@ nothing_fits routes post target e d rest i m f = cc
 pub no_pieces_refused : (routes : Rts) (post : Bool) (target : List ℕ) → path_pieces (path_of target) ≡ None → Refuses routes post target no_route
 no_pieces_refused routes post target e = has_no_route (nothing_fits routes post target e) (nothing_fits routes (not post) target e)
 
-pieces_are : {o : Option (List (List ℕ))} {ps qs : List (List ℕ)} → o ≡ Some ps → o ≡ Some qs → ps ≡ qs
-pieces_are h k = cc
-
 -- no entry was found among all
 pub none_fits : (routes : Rts) (post : Bool) (target : List ℕ) (pieces : List (List ℕ)) → path_pieces (path_of target) ≡ Some pieces → NoEntryFound routes post pieces → NoneFits routes post target
 none_fits routes post target pieces e f d rest i m h =
-    f i.0 d rest (record { there = listed_at routes.entries d i; fits = record { by_method = m; begins = pieces_are e h } })
+    f i.0 d rest (record { there = listed_at routes.entries d i; fits = record { by_method = m; begins = one_value e h } })
 
 pub one_fits : (routes : Rts) (post : Bool) (target : List ℕ) (pieces : List (List ℕ)) (i : ℕ) (d : Ent) (rest : List (List ℕ)) → path_pieces (path_of target) ≡ Some pieces → FoundEntry routes post pieces i d rest → OneFits routes post target d rest
 one_fits routes post target pieces i d rest e f = record {
@@ -87,6 +85,3 @@ strays_at routes post target d rest Memory o h = tt
 pub refused_at : (routes : Rts) (post : Bool) (target : List ℕ) (pieces : List (List ℕ)) (i : ℕ) (d : Ent) (rest : List (List ℕ)) (r : Result Call LinkFault) → path_pieces (path_of target) ≡ Some pieces → FoundEntry routes post pieces i d rest → IfErr r (λ fault. StraysAt routes.datatypes d rest fault) → IfErr r (λ fault. IsRefusal routes post target fault)
 refused_at routes post target pieces i d rest (Ok call) e f h = tt
 refused_at routes post target pieces i d rest (Err fault) e f h = strays_at routes post target d rest fault (one_fits routes post target pieces i d rest e f) h
-
-pub entry_is : {o : Option Ent} {d e : Ent} → o ≡ Some d → o ≡ Some e → d ≡ e
-entry_is h k = cc

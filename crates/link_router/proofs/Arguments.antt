@@ -1,5 +1,6 @@
 -- The values of arguments, one after another.
 use Rattle.std.proofs.Common.{◌≡◌, ℕ, List, [], ◌∷◌, ◌++◌, map, length, sym, subst}
+use Rattle.std.proofs.lemmas.List.{nil_from_length}
 use Rattle.table_rows.specs.Wires.{Wr, Wrs, no_wires, wire, wire_list}
 use Rattle.table_rows.specs.Shapes.{Sh, Shs, no_shapes, shape, Cases}
 use Rattle.link_router.specs.Reading.{Reads, ReadsAll, reads_none, reads_one, Stop, Stops, StopsAll, in_argument, in_later}
@@ -9,7 +10,6 @@ use Rattle.table_rows.specs.declared.shape.Shape.{Shape}
 use Rattle.link_router.specs.Scoped.{StopsSo, StopsAllSo}
 use Rattle.link_router.specs.declared.frames.Stopped.{Stopped}
 use Rattle.link_router.specs.declared.frames.Stopped.TheVariants.{Bad, Few, Memory}
-use Rattle.link_router.proofs.Listed.{nothing_in}
 use Rattle.link_router.proofs.Onward.{in_front_more, in_front_all}
 
 -- with these values read, what the other shapes come to and stop at, all do
@@ -43,4 +43,4 @@ args_stop {D} {ss} {ps} {qs} {ws} rest others first rs Few e f h = all_stop (sub
 args_stop rest others first rs Memory e f h = tt
 
 pub args_done : {D : List Cases} {ss : Shs} {ps qs : List (List ℕ)} {ws : Wrs} (rest : List Shape) → length rest ≡ 0 → AllLead D ss ps (wire_list ws) (shapes_from (map shape_tree rest)) qs → ReadsAll D ss ps ws qs
-args_done {D} {ss} {ps} {qs} {ws} rest e f = all_read (subst (λ us. AllLead D ss ps (wire_list ws) (shapes_from (map shape_tree us)) qs) (nothing_in rest e) f)
+args_done {D} {ss} {ps} {qs} {ws} rest e f = all_read (subst (λ us. AllLead D ss ps (wire_list ws) (shapes_from (map shape_tree us)) qs) (nil_from_length rest e) f)

@@ -10,14 +10,9 @@ use Rattle.table_rows.specs.Wires.{Wr, words, unit, rec_of, bare, Wrs, no_wires,
 use Rattle.table_rows.specs.Shapes.{Sh, an_int, a_text, a_unit, a_truth, a_record, a_data, parameter, Pts, no_parts, part}
 use Rattle.link_router.specs.Forms.{first_value, Form, filled, lacks, spoils, ReadsField, reads_text, checked, unchecked, FailsField, no_pair, no_text, ReadsFields, no_more, one_more, FailsFields, here, later, ReadsForm, of_nothing, of_fields, of_failure, OneFormAtMost, IsFieldShape, AreFieldShapes, EachBodyIsForm}
 use Rattle.link_router.specs.Worked.{WorkedForms, e_acute}
+use Rattle.link_router.proofs.Listed.{no_value, one_value}
 
 -- one value, or none
-one_value : {o : Option (List ℕ)} {v w : List ℕ} → o ≡ Some v → o ≡ Some w → v ≡ w
-one_value h k = let e = sym h ∙ k in cc
-
-no_value : {o : Option (List ℕ)} {v : List ℕ} → o ≡ Some v → o ≡ None → ⊥
-no_value h k = let e = sym h ∙ k in cc
-
 one_field : {ps : List (List ℕ × List ℕ)} {n : List ℕ} {s : Sh} {v w : Wr} → ReadsField ps n s v → ReadsField ps n s w → v ≡ w
 one_field (reads_text h u) (reads_text k z) = ap (λ x. words (decode x)) (one_value h k)
 one_field (checked h) (checked k) = refl

@@ -1,14 +1,13 @@
 -- Shapes with their arguments, one level at a time.
-use Rattle.std.proofs.Common.{◌≡◌, ℕ, ◌+◌, ◌<◌, ◌≤◌, List, [], ◌∷◌, ◌++◌, map, take, length, get_or, Some, None, Option, option_map, slice_get, Box, Global, refl, ap, sym, ◌∙◌, arith}
+use Rattle.std.proofs.Common.{◌≡◌, ℕ, ◌+◌, ◌<◌, ◌≤◌, List, [], ◌∷◌, ◌++◌, map, take, length, get_or, Some, None, Option, option_map, slice_get, refl, ap, sym, ◌∙◌}
 use Rattle.std.proofs.lemmas.Option.{slice_get-map, slice_get_read}
-use Rattle.std.proofs.lemmas.List.{map_more}
-use Rattle.table_rows.specs.Wires.{Wr, rec_of, tagged, Wrs, no_wires, wire_list}
+use Rattle.std.proofs.lemmas.List.{nil_from_length}
+use Rattle.table_rows.specs.Wires.{Wr, rec_of, Wrs, no_wires, wire_list}
 use Rattle.table_rows.specs.Shapes.{Sh, an_int, a_text, a_unit, a_truth, a_record, a_data, parameter, Shs, no_shapes, shape, Pts, no_parts, part, shape_list, argument_at, at_arguments, all_at_arguments, parts_at_arguments}
 use Rattle.table_rows.specs.View.{wire_tree, wires_tree, wire_step, wires_step, shapes_from, parts_from, shape_step, arguments_step, part_step, parts_step, shape_tree, arguments_tree, parts_tree}
-use Rattle.table_rows.specs.declared.wire.Wire.{Wire}
 use Rattle.table_rows.specs.declared.wire.Wires.{Wires}
 use Rattle.table_rows.specs.declared.wire.Wire.TheOpen.{Wire-F}
-use Rattle.table_rows.specs.declared.wire.Wire.TheViews.{Tagged, Rec, rolls-Tagged, rolls-Rec}
+use Rattle.table_rows.specs.declared.wire.Wire.TheViews.{Rec, rolls-Rec}
 use Rattle.table_rows.specs.declared.wire.Wire.TheFolds.{fold-roll-Wire}
 use Rattle.table_rows.specs.declared.shape.Shape.{Shape}
 use Rattle.table_rows.specs.declared.shape.Arguments.{Arguments}
@@ -96,15 +95,11 @@ parts_first ps x others e = parts_are ps ∙ ap (λ xs. parts_from (map part_tre
 pub listed_first : (parts : List Part) (x : Part) (others : List Part) → parts ≡ x ∷ others → parts_from (map part_tree parts) ≡ part (out-Part x).name (shape_tree (out-Part x).shape) (parts_from (map part_tree others))
 listed_first parts x others e = ap (λ xs. parts_from (map part_tree xs)) e ∙ ap (λ (p : List ℕ × Sh). part p.0 p.1 (parts_from (map part_tree others))) (part_is x)
 
-nothing_listed : {X : Type 0} (xs : List X) → length xs ≡ 0 → xs ≡ []
-nothing_listed [] e = refl
-nothing_listed (x ∷ xs) e = absurd (omega (arith, e))
-
 pub parts_nothing : (ps : Parts) → length (out-Parts ps).items.items ≡ 0 → parts_tree ps ≡ no_parts
-parts_nothing ps e = parts_are ps ∙ ap (λ xs. parts_from (map part_tree xs)) (nothing_listed (out-Parts ps).items.items e)
+parts_nothing ps e = parts_are ps ∙ ap (λ xs. parts_from (map part_tree xs)) (nil_from_length (out-Parts ps).items.items e)
 
 pub listed_nothing : (parts : List Part) → length parts ≡ 0 → parts_from (map part_tree parts) ≡ no_parts
-listed_nothing parts e = ap (λ xs. parts_from (map part_tree xs)) (nothing_listed parts e)
+listed_nothing parts e = ap (λ xs. parts_from (map part_tree xs)) (nil_from_length parts e)
 
 -- values that are made
 pub record_tree : (ws : Wires) → wire_tree (Rec ws) ≡ rec_of (wires_tree ws)
@@ -112,9 +107,6 @@ record_tree ws = ap wire_tree (sym (rolls-Rec ws)) ∙ fold-roll-Wire Wr Wrs wir
 
 pub empty_record : (ws : Wires) → wire_list (wires_tree ws) ≡ [] → wire_tree (Rec ws) ≡ rec_of no_wires
 empty_record ws e = record_tree ws ∙ ap rec_of (sym (in_front_all (wires_tree ws)) ∙ ap (λ l. in_front l no_wires) e)
-
-pub held_tree : (n : List ℕ) (b : Box Wire Global) → wire_tree (Tagged n (Some b)) ≡ tagged n (wire_tree b.value)
-held_tree n b = ap wire_tree (sym (rolls-Tagged n (Some b))) ∙ fold-roll-Wire Wr Wrs wire_step wires_step (Wire-F.Tagged n (Some b))
 
 -- shapes as they are taken, form by form
 pub int_in : (s : Shape) (cs : List Closed) → s ≡ Int → shape_in s cs ≡ an_int

@@ -14,6 +14,7 @@ use Rattle.link_router.specs.RouteLaws.{ReadAs, EachTargetIsRead}
 use Rattle.link_router.specs.Answered.{FitsEntry, FoundEntry, NoEntryFound}
 use Rattle.link_router.proofs.Listed.{listed_head, listed_later, none_listed}
 use Rattle.link_router.proofs.Sent.{listed_in}
+use Rattle.link_router.proofs.ReadBack.{heads, tails}
 use Rattle.link_router.proofs.OneCall.{read_route}
 use Rattle.link_router.proofs.OneRefusal.{listed_at}
 use Rattle.link_router.proofs.Answering.{no_pieces_refused, one_fits, other_refused, none_refused}
@@ -27,12 +28,6 @@ Begins name pieces = (rest : List (List ℕ)) × (pieces ≡ name ++ rest)
 no_piece : (n : List ℕ) (ns : List (List ℕ)) → [] ≡ n ∷ ns → ⊥
 no_piece n ns h = cc
 
-first_is : (p n : List ℕ) (ps ns : List (List ℕ)) → p ∷ ps ≡ n ∷ ns → p ≡ n
-first_is p n ps ns h = cc
-
-others_are : (p n : List ℕ) (ps ns : List (List ℕ)) → p ∷ ps ≡ n ∷ ns → ps ≡ ns
-others_are p n ps ns h = cc
-
 some_rest : (name pieces : List (List ℕ)) → Settled (Begins name pieces)
 some_rest [] pieces = inl (pieces, refl)
 some_rest (n ∷ name) [] = inr (λ b. no_piece n (name ++ b.0) b.1)
@@ -43,7 +38,7 @@ some_rest (n ∷ name) (p ∷ pieces) =
     whole (e, b) = (b.0, ap (λ x. x ∷ pieces) e ∙ ap (λ xs. n ∷ xs) b.1)
 
     parts : Begins (n ∷ name) (p ∷ pieces) → (p ≡ n) × Begins name pieces
-    parts (rest, e) = (first_is p n pieces (name ++ rest) e, (rest, others_are p n pieces (name ++ rest) e))
+    parts (rest, e) = let f : p ∷ pieces ≡ n ∷ (name ++ rest) = e in (heads f, (rest, tails f))
 
 -- an entry is read by the method and has its name there, or not
 abbrev EntryFits : Bool → List (List ℕ) → Ent → Type 0

@@ -1,7 +1,7 @@
 -- Links piece by piece.
 use Rattle.std.proofs.Common.{◌≡◌, ℕ, ◌<◌, ◌≤◌, ◌+◌, Bool, true, false, not, if◌then◌else◌, List, [], ◌∷◌, ◌++◌, map, take, length, get_or, Some, option_map, slice_get, refl, ap, ap₂, sym, ◌∙◌, arith, inl, inr}
 use Rattle.std.proofs.lemmas.Bool.{agree_below_at, cases_lt}
-use Rattle.std.proofs.lemmas.List.{append_assoc, map_more, take_more}
+use Rattle.std.proofs.lemmas.List.{append-nil, append_assoc, map_more, take_more}
 use Rattle.std.proofs.lemmas.Option.{slice_get-map, slice_get_read}
 use Rattle.percent_encoding.specs.AsciiSet.{should_percent_encode}
 use Rattle.percent_encoding.specs.Percent.{percent_encode, encode_byte, percent_encode_byte}
@@ -41,11 +41,7 @@ joined-append [] qs = refl
 joined-append (p ∷ ps) qs = ap (λ xs. 47 ∷ p ++ xs) (joined-append ps qs) ∙ ap (λ xs. 47 ∷ xs) (sym (append_assoc p (joined ps) (joined qs)))
 
 all_pieces-more : (ws : List Wr) (w : Wr) → all_pieces (wires_from (ws ++ w ∷ [])) ≡ all_pieces (wires_from ws) ++ pieces w
-all_pieces-more [] w = append_nil (pieces w)
-  where
-    append_nil : (ps : List (List ℕ)) → ps ++ [] ≡ ps
-    append_nil [] = refl
-    append_nil (p ∷ ps) = ap (λ xs. p ∷ xs) (append_nil ps)
+all_pieces-more [] w = append-nil (pieces w)
 all_pieces-more (v ∷ ws) w = ap (λ xs. pieces v ++ xs) (all_pieces-more ws w) ∙ sym (append_assoc (pieces v) (all_pieces (wires_from ws)) (pieces w))
 
 -- what values that are done have written
@@ -60,11 +56,7 @@ written-more ws i d h =
 
 pub names-more : (names : List (List ℕ)) (i : ℕ) (d : List ℕ) → i < length names → joined (take (i + 1) names) ≡ joined (take i names) ++ 47 ∷ get_or names i d
 names-more names i d h =
-    ap joined (take_more names i d h) ∙ joined-append (take i names) (get_or names i d ∷ []) ∙ ap (λ xs. joined (take i names) ++ 47 ∷ xs) (nothing_behind (get_or names i d))
-  where
-    nothing_behind : (xs : List ℕ) → xs ++ [] ≡ xs
-    nothing_behind [] = refl
-    nothing_behind (x ∷ xs) = ap (λ ys. x ∷ ys) (nothing_behind xs)
+    ap joined (take_more names i d h) ∙ joined-append (take i names) (get_or names i d ∷ []) ∙ ap (λ xs. joined (take i names) ++ 47 ∷ xs) (append-nil (get_or names i d))
 
 pub one_further : (old now next done more whole : List ℕ) → now ≡ old ++ done → next ≡ now ++ more → whole ≡ done ++ more → next ≡ old ++ whole
 one_further old now next done more whole h g e = g ∙ ap (λ xs. xs ++ more) h ∙ append_assoc old done more ∙ ap (λ xs. old ++ xs) (sym e)

@@ -1,7 +1,8 @@
 -- What is listed, and names in front of pieces.
-use Rattle.std.proofs.Common.{◌≡◌, ℕ, zero, suc, ◌+◌, ◌<◌, ◌≤◌, None, slice_get, Bool, true, false, IsTrue, ◌↔◌, List, [], ◌∷◌, ◌++◌, map, length, take, get_or, refl, sym, subst, ◌∙◌, ap, arith}
+use Rattle.std.proofs.Common.{◌≡◌, ℕ, zero, suc, ◌+◌, ◌<◌, ◌≤◌, Option, Some, None, slice_get, Bool, true, false, IsTrue, ◌↔◌, List, [], ◌∷◌, ◌++◌, map, length, take, get_or, refl, sym, subst, ◌∙◌, ap, arith}
 use Rattle.std.specs.List.{Contains}
 use Rattle.std.proofs.lemmas.List.{append_assoc, length-map, take_more}
+use Rattle.std.proofs.lemmas.Option.{none-some, same_Some}
 
 pub listed_head : {X : Type 0} (x : X) (xs : List X) → Contains (x ∷ xs) x
 listed_head x xs = (zero, omega arith, refl)
@@ -52,9 +53,12 @@ told_false {r = r} h e p = let k : r ≡ true = h.1 p in cc
 pub told_true : {P : Type 0} {r : Bool} → (IsTrue r ↔ P) → r ≡ true → P
 told_true h e = h.0 e
 
-pub nothing_in : {X : Type 0} (xs : List X) → length xs ≡ 0 → xs ≡ []
-nothing_in [] e = refl
-nothing_in (x ∷ xs) e = absurd (omega (arith, e))
+-- what is there is one thing
+pub one_value : {X : Type 0} {o : Option X} {v w : X} → o ≡ Some v → o ≡ Some w → v ≡ w
+one_value h k = same_Some _ _ (sym h ∙ k)
+
+pub no_value : {X : Type 0} {o : Option X} {v : X} → o ≡ Some v → o ≡ None → ⊥
+no_value {v = v} h k = none-some v (sym k ∙ h)
 
 pub beyond : {X Y : Type 0} (f : X → Y) (xs : List X) (i : ℕ) → length xs ≤ i → slice_get (map f xs) i ≡ None
 beyond f [] i h = refl

@@ -1,6 +1,8 @@
 -- A path is a link of the calls that it is read as, and these are one at most.
 use Rattle.std.proofs.Common.{◌≡◌, ℕ, ◌<◌, ◌⊎◌, inl, inr, Bool, List, [], ◌∷◌, ◌++◌, length, Some, slice_get, refl, ap, sym, subst, ◌∙◌, arith}
 use Rattle.std.specs.List.{Contains}
+use Rattle.std.proofs.lemmas.List.{append-nil}
+use Rattle.std.proofs.lemmas.Option.{same_Some}
 use Rattle.table_rows.specs.Wires.{Wrs}
 use Rattle.table_rows.specs.Pieces.{all_pieces}
 use Rattle.link_router.specs.Calls.{Ent, Rts, Cl}
@@ -9,10 +11,6 @@ use Rattle.link_router.specs.Reading.{ReadsAll}
 use Rattle.link_router.specs.RouteLaws.{AreNamed, ReadAs}
 use Rattle.link_router.proofs.Sent.{Decodes, nothing, a_piece, decodes_both, path_of_joined, names_decode, values_decode, all_sent, listed_in}
 use Rattle.link_router.proofs.ReadBack.{values_read, all_were_sent, all_one}
-
-append_nil : {X : Type 0} (xs : List X) → xs ++ [] ≡ xs
-append_nil [] = refl
-append_nil (x ∷ xs) = ap (λ ys. x ∷ ys) (append_nil xs)
 
 pieces_of_joined : {ps qs : List (List ℕ)} → Decodes ps qs → 0 < length ps → path_pieces (joined ps) ≡ Some qs
 pieces_of_joined nothing h = absurd (omega (arith, h))
@@ -35,7 +33,7 @@ route_read routes post target call n r =
       by_method = r.by_method;
       left = all_sent call.wires;
       named = r.same_pieces ∙ link_pieces routes r.entry call.wires n i (values_decode n.plain_constructors r.shapes r.carried);
-      arguments = subst (λ ps. ReadsAll routes.datatypes r.entry.arguments ps call.wires []) (append_nil (all_sent call.wires)) (values_read [] r.shapes r.carried);
+      arguments = subst (λ ps. ReadsAll routes.datatypes r.entry.arguments ps call.wires []) (append-nil (all_sent call.wires)) (values_read [] r.shapes r.carried);
       no_form = r.no_form;
       no_cookie = r.no_cookie;
     }
@@ -50,13 +48,10 @@ read_route routes post target call n r =
       by_method = r.by_method;
       shapes = w.shaped;
       carried = w.carried;
-      same_pieces = r.named ∙ ap (λ ps. Some (r.entry.name ++ ps)) (w.pieces ∙ append_nil (all_sent call.wires)) ∙ sym (link_pieces routes r.entry call.wires n i (values_decode n.plain_constructors w.shaped w.carried));
+      same_pieces = r.named ∙ ap (λ ps. Some (r.entry.name ++ ps)) (w.pieces ∙ append-nil (all_sent call.wires)) ∙ sym (link_pieces routes r.entry call.wires n i (values_decode n.plain_constructors w.shaped w.carried));
       no_form = r.no_form;
       no_cookie = r.no_cookie;
     }
-
-some_is : {X : Type 0} {x y : X} → Some x ≡ Some y → x ≡ y
-some_is h = cc
 
 -- of two lists that begin one list, one begins the other
 one_begins : (xs ys us vs : List (List ℕ)) → xs ++ us ≡ ys ++ vs → ((more : List (List ℕ)) × (xs ++ more ≡ ys)) ⊎ ((more : List (List ℕ)) × (ys ++ more ≡ xs))
@@ -75,7 +70,7 @@ same_rest [] us vs e = e
 same_rest (x ∷ xs) us vs e = let rest : xs ++ us ≡ xs ++ vs = cc in same_rest xs us vs rest
 
 none_behind : (xs ys more : List (List ℕ)) → more ≡ [] → xs ++ more ≡ ys → xs ≡ ys
-none_behind xs ys more h e = sym (append_nil xs) ∙ ap (λ zs. xs ++ zs) (sym h) ∙ e
+none_behind xs ys more h e = sym (append-nil xs) ∙ ap (λ zs. xs ++ zs) (sym h) ∙ e
 
 -- Pieces that begin with the names of two entries begin with one name, and the same is left.
 pub both_parts : (routes : Rts) (d e : Ent) (us vs : List (List ℕ)) → AreNamed routes → Contains routes.entries d → Contains routes.entries e → d.name ++ us ≡ e.name ++ vs → (d.name ≡ e.name) × (us ≡ vs)
@@ -99,9 +94,9 @@ read_one : (routes : Rts) (post : Bool) (target : List ℕ) (c d : Cl) → AreNa
 read_one routes post target c d n r s =
     let i = listed_in routes.entries c.entry r.entry r.is_entry in
     let j = listed_in routes.entries d.entry s.entry s.is_entry in
-    let (names, lefts) = both_parts routes r.entry s.entry r.left s.left n i j (some_is (sym r.named ∙ s.named)) in
+    let (names, lefts) = both_parts routes r.entry s.entry r.left s.left n i j (same_Some _ _ (sym r.named ∙ s.named)) in
     let numbers : c.entry ≡ d.entry = n.entries_differ c.entry d.entry r.entry s.entry r.is_entry s.is_entry (r.by_method ∙ sym s.by_method) names in
-    let entries : s.entry ≡ r.entry = some_is (sym s.is_entry ∙ ap (λ k. slice_get routes.entries k) (sym numbers) ∙ r.is_entry) in
+    let entries : s.entry ≡ r.entry = same_Some _ _ (sym s.is_entry ∙ ap (λ k. slice_get routes.entries k) (sym numbers) ∙ r.is_entry) in
     let wires : c.wires ≡ d.wires = all_one n.constructors_differ r.arguments (subst (λ (e : Ent). ReadsAll routes.datatypes e.arguments s.left d.wires []) entries s.arguments) lefts in
     same_call c d numbers wires (r.no_form ∙ sym s.no_form) (r.no_cookie ∙ sym s.no_cookie)
 

@@ -1,7 +1,7 @@
 -- A target has one answer: it is read, or it is refused for one reason.
 use Rattle.std.proofs.Common.{◌≡◌, ℕ, ◌-◌, ◌<◌, Bool, true, false, not, List, [], ◌∷◌, ◌++◌, length, get_or, Option, Some, None, slice_get, refl, ap, sym, subst, ◌∙◌, ◌⊎◌, inl, inr, arith}
 use Rattle.std.specs.List.{Contains}
-use Rattle.std.proofs.lemmas.Option.{slice_get_read}
+use Rattle.std.proofs.lemmas.Option.{same_Some, slice_get_read}
 use Rattle.table_rows.specs.Wires.{Wr, Wrs}
 use Rattle.table_rows.specs.Shapes.{Sh, Shs, Pts, Cases, at_arguments}
 use Rattle.link_router.specs.Calls.{Ent, Rts, Cl, is_post}
@@ -9,61 +9,42 @@ use Rattle.link_router.specs.Reading.{IsNumber, IsWords, IsTruth, Names, Reads, 
 use Rattle.link_router.specs.Routed.{Astray, no_route, other_method, bad_piece, too_few, too_many, NoneFits, OneFits, Refuses, has_no_route, has_other_method, has_bad_piece, has_too_few, has_too_many}
 use Rattle.link_router.specs.RouteLaws.{AreNamed, ReadAs}
 use Rattle.link_router.specs.Links.{Route}
+use Rattle.link_router.proofs.Listed.{no_value, one_value}
 use Rattle.link_router.proofs.Sent.{listed_in}
 use Rattle.link_router.proofs.OneCall.{both_parts, route_read}
-use Rattle.link_router.proofs.ReadBack.{OneOfAName, one_read}
+use Rattle.link_router.proofs.ReadBack.{OneOfAName, heads, one_held, one_read, tails}
 
 no_pieces : {p : List ℕ} {ps : List (List ℕ)} → p ∷ ps ≡ [] → ⊥
 no_pieces h = cc
 
-head_of : {X : Type 0} {x y : X} {xs ys : List X} → x ∷ xs ≡ y ∷ ys → x ≡ y
-head_of h = cc
-
-tail_of : {X : Type 0} {x y : X} {xs ys : List X} → x ∷ xs ≡ y ∷ ys → xs ≡ ys
-tail_of h = cc
-
-some_of : {X : Type 0} {x y : X} → Some x ≡ Some y → x ≡ y
-some_of h = cc
-
-not_both : {X : Type 0} {x : X} {o : Option X} → o ≡ Some x → o ≡ None → ⊥
-not_both h k = cc
-
-one_at : {X : Type 0} (xs : List X) (i : ℕ) {x y : X} → slice_get xs i ≡ Some x → slice_get xs i ≡ Some y → x ≡ y
-one_at xs i h k = cc
-
--- what a constructor of a name holds, in a datatype found twice
-one_holding : (D : List Cases) (d : ℕ) {cs es : Cases} {p q : List ℕ} {h k : Option Sh} → OneOfAName D → slice_get D d ≡ Some cs → Contains cs (p, h) → slice_get D d ≡ Some es → Contains es (q, k) → p ≡ q → h ≡ k
-one_holding D d {cs} {es} {p} {q} {h} {k} o e i g j same =
-    o cs p h k (listed_in D d cs e) i (subst (λ x. Contains x (p, k)) (sym (one_at D d e g)) (subst (λ x. Contains es (x, k)) (sym same) j))
-
 -- a name among the constructors of a datatype found twice
 still_named : (D : List Cases) (d : ℕ) {cs es : Cases} {p q : List ℕ} {h : Option Sh} → slice_get D d ≡ Some cs → Contains cs (p, h) → slice_get D d ≡ Some es → p ≡ q → Names es q
-still_named D d {cs} {es} {p} {q} {h} e i g same = (h, subst (λ x. Contains x (q, h)) (one_at D d e g) (subst (λ x. Contains cs (x, h)) same i))
+still_named D d {cs} {es} {p} {q} {h} e i g same = (h, subst (λ x. Contains x (q, h)) (one_value e g) (subst (λ x. Contains cs (x, h)) same i))
 
 bare_or_holding : (D : List Cases) (d : ℕ) {cs es : Cases} {p q : List ℕ} {s : Sh} → OneOfAName D → slice_get D d ≡ Some cs → Contains cs (p, None) → slice_get D d ≡ Some es → Contains es (q, Some s) → p ≡ q → ⊥
-bare_or_holding D d o e i g j same = not_both (one_holding D d o e i g j same) refl
+bare_or_holding D d o e i g j same = no_value (one_held D d o e i g j same) refl
 
 -- reading a value and stopping in it exclude each other
 mutual
   pub read_or_stop : {D : List Cases} {s : Sh} {ps qs rs : List (List ℕ)} {w : Wr} {x : Stop} → OneOfAName D → Reads D s ps w rs → Stops D s qs x → ps ≡ qs → ⊥
   read_or_stop o (reads_int n) few_for_int e = no_pieces e
-  read_or_stop o (reads_int {z = z} n) (no_int f) e = f z (subst (λ p. IsNumber p z) (head_of e) n)
+  read_or_stop o (reads_int {z = z} n) (no_int f) e = f z (subst (λ p. IsNumber p z) (heads e) n)
   read_or_stop o (reads_text n) few_for_text e = no_pieces e
-  read_or_stop o (reads_text {t = t} n) (no_text f) e = f t (subst (λ p. IsWords p t) (head_of e) n)
+  read_or_stop o (reads_text {t = t} n) (no_text f) e = f t (subst (λ p. IsWords p t) (heads e) n)
   read_or_stop o reads_unit st e = elim st [ ]
   read_or_stop o (reads_truth t) few_for_truth e = no_pieces e
-  read_or_stop o (reads_truth t) (no_truth f) e = f (subst IsTruth (head_of e) t)
+  read_or_stop o (reads_truth t) (no_truth f) e = f (subst IsTruth (heads e) t)
   read_or_stop o (reads_record h) (in_record k) e = parts_read_or_stop o h k e
   read_or_stop o (reads_bare h i) few_for_data e = no_pieces e
-  read_or_stop {D} o (reads_bare {d = d} h i) (no_data g f) e = f (still_named D d h i g (head_of e))
-  read_or_stop o (reads_bare h i) (no_datatype g) e = not_both h g
-  read_or_stop {D} o (reads_bare {d = d} h i) (in_held g j k) e = bare_or_holding D d o h i g j (head_of e)
+  read_or_stop {D} o (reads_bare {d = d} h i) (no_data g f) e = f (still_named D d h i g (heads e))
+  read_or_stop o (reads_bare h i) (no_datatype g) e = no_value h g
+  read_or_stop {D} o (reads_bare {d = d} h i) (in_held g j k) e = bare_or_holding D d o h i g j (heads e)
   read_or_stop o (reads_tagged h i r) few_for_data e = no_pieces e
-  read_or_stop {D} o (reads_tagged {d = d} h i r) (no_data g f) e = f (still_named D d h i g (head_of e))
-  read_or_stop o (reads_tagged h i r) (no_datatype g) e = not_both h g
+  read_or_stop {D} o (reads_tagged {d = d} h i r) (no_data g f) e = f (still_named D d h i g (heads e))
+  read_or_stop o (reads_tagged h i r) (no_datatype g) e = no_value h g
   read_or_stop {D} {x = x} o (reads_tagged {d = d} {ss = ss} {s = s} h i r) (in_held {s = t} {ps = us} g j k) e =
-      let same : s ≡ t = some_of (one_holding D d o h i g j (head_of e)) in
-      read_or_stop o r (subst (λ u. Stops D (at_arguments ss u) us x) (sym same) k) (tail_of e)
+      let same : s ≡ t = same_Some _ _ (one_held D d o h i g j (heads e)) in
+      read_or_stop o r (subst (λ u. Stops D (at_arguments ss u) us x) (sym same) k) (tails e)
 
   pub parts_read_or_stop : {D : List Cases} {fs : Pts} {ps qs rs : List (List ℕ)} {ws : Wrs} {x : Stop} → OneOfAName D → ReadsParts D fs ps ws rs → StopsParts D fs qs x → ps ≡ qs → ⊥
   parts_read_or_stop o reads_no_part st e = elim st [ ]
@@ -107,18 +88,18 @@ mutual
   one_stop o few_for_data (in_held g j k) e = absurd (no_pieces (sym e))
   one_stop o (no_data h f) few_for_data e = absurd (no_pieces e)
   one_stop o (no_data h f) (no_data g k) e = ap bad e
-  one_stop o (no_data h f) (no_datatype g) e = absurd (not_both h g)
-  one_stop {D} o (no_data {d = d} h f) (in_held g j k) e = absurd (f (still_named D d g j h (sym (head_of e))))
+  one_stop o (no_data h f) (no_datatype g) e = absurd (no_value h g)
+  one_stop {D} o (no_data {d = d} h f) (in_held g j k) e = absurd (f (still_named D d g j h (sym (heads e))))
   one_stop o (no_datatype g) few_for_data e = absurd (no_pieces e)
-  one_stop o (no_datatype g) (no_data h f) e = absurd (not_both h g)
+  one_stop o (no_datatype g) (no_data h f) e = absurd (no_value h g)
   one_stop o (no_datatype g) (no_datatype h) e = ap bad e
-  one_stop o (no_datatype g) (in_held h i k) e = absurd (not_both h g)
+  one_stop o (no_datatype g) (in_held h i k) e = absurd (no_value h g)
   one_stop o (in_held h i k) few_for_data e = absurd (no_pieces e)
-  one_stop {D} o (in_held {d = d} h i k) (no_data g f) e = absurd (f (still_named D d h i g (head_of e)))
-  one_stop o (in_held h i k) (no_datatype g) e = absurd (not_both h g)
+  one_stop {D} o (in_held {d = d} h i k) (no_data g f) e = absurd (f (still_named D d h i g (heads e)))
+  one_stop o (in_held h i k) (no_datatype g) e = absurd (no_value h g)
   one_stop {D} {y = y} o (in_held {d = d} {ss = ss} {s = s} h i k) (in_held {s = t} {ps = us} g j l) e =
-      let same : s ≡ t = some_of (one_holding D d o h i g j (head_of e)) in
-      one_stop o k (subst (λ u. Stops D (at_arguments ss u) us y) (sym same) l) (tail_of e)
+      let same : s ≡ t = same_Some _ _ (one_held D d o h i g j (heads e)) in
+      one_stop o k (subst (λ u. Stops D (at_arguments ss u) us y) (sym same) l) (tails e)
 
   one_stop_of_parts : {D : List Cases} {fs : Pts} {ps qs : List (List ℕ)} {x y : Stop} → OneOfAName D → StopsParts D fs ps x → StopsParts D fs qs y → ps ≡ qs → x ≡ y
   one_stop_of_parts o (in_part h) (in_part g) e = one_stop o h g e
@@ -138,11 +119,11 @@ listed_at xs x c = slice_get_read xs (length xs) c.0 x refl c.1 (sym c.2)
 
 one_entry : (routes : Rts) (post : Bool) (target : List ℕ) {e d : Ent} {rest left : List (List ℕ)} → AreNamed routes → OneFits routes post target e rest → OneFits routes post target d left → (e ≡ d) × (rest ≡ left)
 one_entry routes post target {e} {d} {rest} {left} n h k =
-    let (names, rests) = both_parts routes e d rest left n h.one_of_them k.one_of_them (some_of (sym h.named ∙ k.named)) in
+    let (names, rests) = both_parts routes e d rest left n h.one_of_them k.one_of_them (same_Some _ _ (sym h.named ∙ k.named)) in
     let at_h = listed_at routes.entries e h.one_of_them in
     let at_k = listed_at routes.entries d k.one_of_them in
     let places : h.one_of_them.0 ≡ k.one_of_them.0 = n.entries_differ h.one_of_them.0 k.one_of_them.0 e d at_h at_k (h.by_method ∙ sym k.by_method) names in
-    (some_of (sym at_h ∙ ap (λ i. slice_get routes.entries i) places ∙ at_k), rests)
+    (same_Some _ _ (sym at_h ∙ ap (λ i. slice_get routes.entries i) places ∙ at_k), rests)
 
 none_or_one : {routes : Rts} {post : Bool} {target : List ℕ} {e : Ent} {rest : List (List ℕ)} → NoneFits routes post target → OneFits routes post target e rest → ⊥
 none_or_one {e = e} {rest = rest} f h = f e rest h.one_of_them h.by_method h.named

@@ -2,9 +2,9 @@
 use Rattle.std.proofs.Common.{◌≡◌, ℕ, ◌<◌, ◌==◌, Bool, true, false, IsTrue, ◌↔◌, List, [], ◌∷◌, ◌++◌, length, map, take, drop, codes, refl, ap, sym, subst, ◌∙◌, arith, if◌then◌else◌}
 use Rattle.std.specs.Char.{to_ascii_lowercase}
 use Rattle.std.specs.Str.{bytes_eq}
-use Rattle.std.proofs.lemmas.Bool.{cases_lt}
+use Rattle.std.proofs.lemmas.Bool.{cases_lt, false_from_ne_true}
 use Rattle.std.proofs.lemmas.Bool.Decides.{nat_tests}
-use Rattle.std.proofs.lemmas.List.{append_assoc, length-map, length-take}
+use Rattle.std.proofs.lemmas.List.{append-nil, append_assoc, length-map, length-take}
 use Rattle.std.proofs.lemmas.Slice.Eq.{bytes_eq-Decides}
 use Rattle.percent_encoding.specs.Percent.{percent_decode}
 use Rattle.link_router.specs.Links.{in_first, split, lowered, from_slash, path_of}
@@ -26,17 +26,13 @@ yes_path t e = rw e refl
 no_path : (t : List ℕ) → bytes_eq (map lowered (take 7 t)) scheme ≡ false → path_of t ≡ t
 no_path t e = rw e refl
 
-told : (b : Bool) → (b ≡ true → ⊥) → b ≡ false
-told false h = refl
-told true h = absurd (h refl)
-
 pub short_path : (t : List ℕ) → length t < 7 → t ≡ path_of t
-short_path t h = sym (no_path t (told _ (λ e.
+short_path t h = sym (no_path t (false_from_ne_true _ (λ e.
     let same : map lowered (take 7 t) ≡ scheme = (bytes_eq-Decides _ _).0 e in
     omega (arith, ap length same, length-map (take 7 t) lowered, length-take 7 t))))
 
 pub plain_path : (t s : List ℕ) (r : Bool) → s ≡ take 7 t → (IsTrue r ↔ (map to_ascii_lowercase s ≡ map to_ascii_lowercase scheme)) → r ≡ false → t ≡ path_of t
-plain_path t s r e h untrue = sym (no_path t (told _ (λ k.
+plain_path t s r e h untrue = sym (no_path t (false_from_ne_true _ (λ k.
     let same : map lowered (take 7 t) ≡ scheme = (bytes_eq-Decides _ _).0 k in
     let told_same : r ≡ true = h.1 (ap (map to_ascii_lowercase) e ∙ sym (all_lowered (take 7 t)) ∙ same) in
     cc)))
@@ -52,10 +48,6 @@ abbrev pub with_front : List ℕ → List (List ℕ) → List (List ℕ)
 with_front cur [] = cur ∷ []
 with_front cur (p ∷ ps) = (cur ++ p) ∷ ps
 
-append_nil : {X : Type 0} (xs : List X) → xs ++ [] ≡ xs
-append_nil [] = refl
-append_nil (x ∷ xs) = ap (λ ys. x ∷ ys) (append_nil xs)
-
 -- a path's pieces are never none
 first_of : (bs : List ℕ) → (p : List ℕ) × (ps : List (List ℕ)) × (split bs ≡ p ∷ ps)
 first_of [] = ([], [], refl)
@@ -69,13 +61,13 @@ front_nothing : (bs : List ℕ) → with_front [] (split bs) ≡ split bs
 front_nothing bs = let (p, ps, e) = first_of bs in rw e refl
 
 pub at_slash : (b : ℕ) (bs cur : List ℕ) → b ≡ 47 → with_front cur (split (b ∷ bs)) ≡ cur ∷ with_front [] (split bs)
-at_slash b bs cur e = rw e (ap (λ p. p ∷ split bs) (append_nil cur) ∙ ap (λ ps. cur ∷ ps) (sym (front_nothing bs)))
+at_slash b bs cur e = rw e (ap (λ p. p ∷ split bs) (append-nil cur) ∙ ap (λ ps. cur ∷ ps) (sym (front_nothing bs)))
 
 pub at_other : (b : ℕ) (bs cur : List ℕ) → (b == 47) ≡ false → with_front cur (split (b ∷ bs)) ≡ with_front (cur ++ b ∷ []) (split bs)
 at_other b bs cur e = let (p, ps, f) = first_of bs in rw (e, f) (ap (λ x. x ∷ ps) (sym (append_assoc cur (b ∷ []) p)))
 
 pub at_end : (cur : List ℕ) → with_front cur (split []) ≡ cur ∷ []
-at_end cur = ap (λ p. p ∷ []) (append_nil cur)
+at_end cur = ap (λ p. p ∷ []) (append-nil cur)
 
 pub at_start : (bs : List ℕ) → split bs ≡ with_front [] (split bs)
 at_start bs = sym (front_nothing bs)

@@ -3,10 +3,12 @@ use Rattle.std.proofs.Common.{◌≡◌, ℕ, ℤ, List, ◌∷◌, ◌++◌, Op
 use Rattle.std.specs.List.{Contains}
 use Rattle.std.proofs.lemmas.List.{append_assoc}
 use Rattle.std.proofs.lemmas.Fmt.{signed_decimal_injective}
+use Rattle.std.proofs.lemmas.Option.{same_Some}
 use Rattle.table_rows.specs.Wires.{Wr, int, words, rec_of, bare, tagged, Wrs, wire}
 use Rattle.table_rows.specs.Shapes.{Sh, a_truth, Shs, shape, Pts, part, Cases, at_arguments, HasShape, int_has, text_has, unit_has, true_has, false_has, record_has, bare_has, tagged_has, HaveParts, no_parts_have, part_has, HaveShapes, no_shapes_have, shape_has}
 use Rattle.link_router.specs.Calls.{IsCarried, AreCarried}
 use Rattle.link_router.specs.Reading.{IsNumber, IsWords, IsTruth, Reads, reads_int, reads_text, reads_unit, reads_truth, reads_record, reads_bare, reads_tagged, ReadsParts, reads_no_part, reads_part, ReadsAll, reads_none, reads_one}
+use Rattle.link_router.proofs.Listed.{one_value}
 use Rattle.link_router.proofs.Sent.{sent, all_sent, fits_mag, listed_in}
 
 mutual
@@ -79,9 +81,6 @@ all_were_sent (reads_one {rs = rs} {w = w} {ws = ws} h k) =
 abbrev pub OneOfAName : List Cases → Type 0
 OneOfAName D = (cs : Cases) (n : List ℕ) (h k : Option Sh) → Contains D cs → Contains cs (n, h) → Contains cs (n, k) → h ≡ k
 
-pub same_cases : (D : List Cases) (d : ℕ) {cs es : Cases} → slice_get D d ≡ Some cs → slice_get D d ≡ Some es → cs ≡ es
-same_cases D d h k = cc
-
 pub heads : {X : Type 0} {x y : X} {xs ys : List X} → x ∷ xs ≡ y ∷ ys → x ≡ y
 heads h = cc
 
@@ -94,15 +93,13 @@ same_number {z = z} {y = y} n m e = signed_decimal_injective z y (fits_mag z n.f
 same_words : {p q t u : List ℕ} → IsWords p t → IsWords q u → p ≡ q → t ≡ u
 same_words n m e = tails (sym n.behind ∙ e ∙ m.behind)
 
+-- what a constructor of a name holds, in a datatype found twice
 pub one_held : (D : List Cases) (d : ℕ) {cs es : Cases} {p q : List ℕ} {h k : Option Sh} → OneOfAName D → slice_get D d ≡ Some cs → Contains cs (p, h) → slice_get D d ≡ Some es → Contains es (q, k) → p ≡ q → h ≡ k
 one_held D d {cs} {es} {p} {q} {h} {k} o e i g j same =
-    o cs p h k (listed_in D d cs e) i (subst (λ x. Contains x (p, k)) (sym (same_cases D d e g)) (subst (λ x. Contains es (x, k)) (sym same) j))
+    o cs p h k (listed_in D d cs e) i (subst (λ x. Contains x (p, k)) (sym (one_value e g)) (subst (λ x. Contains es (x, k)) (sym same) j))
 
 pub no_other : {X : Type 0} {x : X} → None ≡ Some x → ⊥
 no_other h = cc
-
-pub held_same : {X : Type 0} {x y : X} → Some x ≡ Some y → x ≡ y
-held_same h = cc
 
 mutual
   pub one_read : {D : List Cases} {s : Sh} {ps ps' qs rs : List (List ℕ)} {w v : Wr} → OneOfAName D → Reads D s ps w qs → Reads D s ps' v rs → ps ≡ ps' → (w ≡ v) × (qs ≡ rs)
@@ -115,7 +112,7 @@ mutual
   one_read {D} o (reads_bare {d = d} h i) (reads_tagged g j r) e = absurd (no_other (one_held D d o h i g j (heads e)))
   one_read {D} o (reads_tagged {d = d} h i r) (reads_bare g j) e = absurd (no_other (sym (one_held D d o h i g j (heads e))))
   one_read {D} {w = w} o (reads_tagged {d = d} {ss = ss} {s = s} {p = p} {ps = ps} {w = x} h i r) (reads_tagged {s = t} {ps = us} {qs = rs} {w = y} g j k) e =
-      let same : s ≡ t = held_same (one_held D d o h i g j (heads e)) in
+      let same : s ≡ t = same_Some _ _ (one_held D d o h i g j (heads e)) in
       let (q, z) = one_read o r (subst (λ u. Reads D (at_arguments ss u) us y rs) (sym same) k) (tails e) in
       (ap (tagged p) q ∙ ap (λ n. tagged n y) (heads e), z)
 

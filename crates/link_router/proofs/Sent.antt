@@ -1,12 +1,14 @@
 -- The pieces of a link, once they are split and decoded.
-use Rattle.std.proofs.Common.{◌≡◌, ◌≢◌, ℕ, suc, ◌<◌, ◌^◌, ℤ, pos, negsuc, Bool, true, false, ◌==◌, ◌&&◌, if◌then◌else◌, List, [], ◌∷◌, ◌++◌, map, Option, Some, None, slice_get, codes, refl, ap, sym, subst, ◌∙◌, arith, inl, inr}
+use Rattle.std.proofs.Common.{◌≡◌, ◌≢◌, ℕ, suc, ◌<◌, ◌^◌, ℤ, pos, negsuc, Bool, true, false, ◌==◌, if◌then◌else◌, List, [], ◌∷◌, ◌++◌, map, Option, Some, None, slice_get, codes, refl, ap, sym, subst, ◌∙◌, arith, inl, inr}
 use Rattle.std.specs.Prelude.{FitsSigned}
 use Rattle.std.specs.Int.{w64}
 use Rattle.std.specs.Int.Signed.{mag}
 use Rattle.std.specs.Fmt.{decimal, signed_decimal}
 use Rattle.std.specs.Str.{IsUtf8, all_ascii_digits}
 use Rattle.std.specs.List.{All, Contains, AllByRecursion}
+use Rattle.std.proofs.lemmas.Bool.{and_parts}
 use Rattle.std.proofs.lemmas.Bool.Decides.{Decides-eqb}
+use Rattle.std.proofs.lemmas.List.{append-nil}
 use Rattle.std.proofs.lemmas.List.Elements.{All-from_recursion, recursion_from_All}
 use Rattle.std.proofs.lemmas.Fmt.{digits_decimal}
 use Rattle.std.proofs.lemmas.Option.{slice_get_within, get_or_from_slice_get}
@@ -55,12 +57,8 @@ split_before : (p rest : List ℕ) → IsOnePiece p → split (p ++ 47 ∷ rest)
 split_before [] rest h = refl
 split_before (b ∷ bs) rest h = split_at b (bs ++ 47 ∷ rest) h.0 ∙ ap (in_first b) (split_before bs rest h.1)
 
-append_nil : (xs : List ℕ) → xs ++ [] ≡ xs
-append_nil [] = refl
-append_nil (x ∷ xs) = ap (λ ys. x ∷ ys) (append_nil xs)
-
 split_joined : (p : List ℕ) {ps qs : List (List ℕ)} (q : List ℕ) → IsOnePiece p → percent_decode p ≡ q → Decodes ps qs → map percent_decode (split (p ++ joined ps)) ≡ q ∷ qs
-split_joined p q s e nothing = ap (λ xs. map percent_decode (split xs)) (append_nil p) ∙ ap (map percent_decode) (split_alone p s) ∙ ap (λ x. x ∷ []) e
+split_joined p q s e nothing = ap (λ xs. map percent_decode (split xs)) (append-nil p) ∙ ap (map percent_decode) (split_alone p s) ∙ ap (λ x. x ∷ []) e
 split_joined p q s e (a_piece {p = r} {q = t} {ps = ps} s2 e2 d) =
     ap (map percent_decode) (split_before p (r ++ joined ps) s) ∙ ap (λ x. x ∷ map percent_decode (split (r ++ joined ps))) e ∙ ap (λ xs. q ∷ xs) (split_joined r t s2 e2 d)
 
@@ -120,13 +118,9 @@ bytes_both : (xs ys : List ℕ) → AllByRecursion IsByte xs → AllByRecursion 
 bytes_both [] ys h k = k
 bytes_both (x ∷ xs) ys h k = (h.0, bytes_both xs ys h.1 k)
 
-both_true : (a b : Bool) → (a && b) ≡ true → (a ≡ true) × (b ≡ true)
-both_true true b h = (refl, h)
-both_true false b h = cc
-
 chars_bytes : (cs : List ℕ) → scalars cs ≡ true → AllByRecursion IsByte (encodes cs)
 chars_bytes [] h = tt
-chars_bytes (c ∷ cs) h = let (p, q) = both_true (scalar c) (scalars cs) h in bytes_both (encode c) (encodes cs) (char_bytes c p) (chars_bytes cs q)
+chars_bytes (c ∷ cs) h = let (p, q) = and_parts (scalar c) (scalars cs) h in bytes_both (encode c) (encodes cs) (char_bytes c p) (chars_bytes cs q)
 
 text_bytes : (t : List ℕ) → IsUtf8 t → All IsByte t
 text_bytes t (cs, (s, e)) = All-from_recursion IsByte t (subst (AllByRecursion IsByte) e (chars_bytes cs s))

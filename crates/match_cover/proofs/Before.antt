@@ -1,19 +1,12 @@
 -- The datatypes of declarations, one after another.
-use Rattle.std.proofs.Common.{◌≡◌, ℕ, ◌+◌, ◌<◌, ◌≤◌, List, [], ◌∷◌, ◌++◌, length, map, take, get_or, refl, ap, sym, ◌∙◌, arith, append_assoc, take_all}
+use Rattle.std.proofs.Common.{◌≡◌, ℕ, ◌+◌, ◌<◌, ◌≤◌, List, ◌∷◌, ◌++◌, length, map, take, get_or, ap, sym, ◌∙◌, arith, append_assoc, take_all, []}
 use Rattle.std.proofs.lemmas.List.{map_more, take-map, length-map}
-use Rattle.core_terms.specs.Trees.{De, val, vals, con_is, datatype, thing, Dt}
+use Rattle.core_terms.specs.Trees.{Dt}
 use Rattle.core_terms.specs.View.{decl_tree}
 use Rattle.core_terms.specs.declared.decl.Decl.{Decl}
 use Rattle.core_terms.specs.Datatypes.{basis_datatypes}
 use Rattle.core_typing.specs.Declarations.{datatypes, datatypes_before}
-
-datatypes_end : (xs ys : List De) → datatypes (xs ++ ys) ≡ datatypes xs ++ datatypes ys
-datatypes_end [] ys = refl
-datatypes_end (datatype d ∷ xs) ys = ap (λ ds. d ∷ ds) (datatypes_end xs ys)
-datatypes_end (val path p x w t e ∷ xs) ys = datatypes_end xs ys
-datatypes_end (vals path ns ∷ xs) ys = datatypes_end xs ys
-datatypes_end (con_is path p x w k c ∷ xs) ys = datatypes_end xs ys
-datatypes_end (thing path p x k t ∷ xs) ys = datatypes_end xs ys
+use Rattle.core_typing.proofs.AcceptedScopes.{datatypes_of as datatypes_end}
 
 one_more : (xs : List Decl) (i : ℕ) (d : Decl) → i < length xs → d ≡ get_or xs i d → take (i + 1) (map decl_tree xs) ≡ take i (map decl_tree xs) ++ decl_tree d ∷ []
 one_more xs i d h e =

@@ -11,7 +11,7 @@ pub named_listed : (ps : Prs) → pair_list ps ≡ named_pairs ps
 named_listed no_pairs = refl
 named_listed (pair n v ps) = ap (λ qs. (n, v) ∷ qs) (named_listed ps)
 
-one_less : {X : Type 0} (l : List X) (i : ℕ) (x : X) → slice_get l i ≡ Some x → drop i l ≡ x ∷ drop (i + 1) l
+pub one_less : {X : Type 0} (l : List X) (i : ℕ) (x : X) → slice_get l i ≡ Some x → drop i l ≡ x ∷ drop (i + 1) l
 one_less l i x h = drop_more l i x (slice_get_within l i x h) ∙ ap (λ y. y ∷ drop (i + 1) l) (get_or_from_slice_get l i x x h)
 
 pub pairs_on : (parts more : List Part) (p : Part) (l all : List (Cn × Cn)) (i : ℕ) (q : Cn × Cn)

@@ -3,6 +3,7 @@ use Rattle.std.proofs.Common.{◌≡◌, ℕ, Bool, true, false, ◌&&◌, ◌==
 use Rattle.core_typing.specs.Cover.{Shp, holding_shape}
 use Rattle.match_cover.specs.Tests.{Ts, anything, a_number, a_text, a_bare, a_holding, some_fields, passes}
 use Rattle.match_cover.specs.Rows.{Cell, Row, cell_passes, asks_nothing, is_free, row_is_free, row_passes, one_passes, one_is_free, heads_are_free, kept, tails, held_tests, with_cell, inside}
+pub use Rattle.std.proofs.lemmas.Bool.{and_from as and_intro}
 
 -- rows that a shape is passed by
 kept_step : (b : Bool) (c : Cell) (cs : Row) (ks : List Row) (ss : List Shp) (r : Bool) → one_passes (tails ks) ss ≡ r
@@ -14,12 +15,6 @@ pub kept_tells : (s : Shp) (ss : List Shp) (rows : List Row) → one_passes (tai
 kept_tells s ss [] = refl
 kept_tells s ss ([] ∷ rs) = refl
 kept_tells s ss ((c ∷ cs) ∷ rs) = kept_step (cell_passes c s) c cs (kept s rs) ss (one_passes rs (s ∷ ss)) (kept_tells s ss rs)
-
--- booleans
-pub and_intro : (a b : Bool) → a ≡ true → b ≡ true → (a && b) ≡ true
-and_intro true true h k = refl
-and_intro true false h k = k
-and_intro false b h k = h
 
 pub and_left : (a b : Bool) → (a && b) ≡ true → a ≡ true
 and_left true b h = refl

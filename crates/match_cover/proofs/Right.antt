@@ -2,7 +2,6 @@
 use Rattle.std.proofs.Common.{◌≡◌, ℕ, zero, suc, ◌+◌, ◌-◌, ◌/◌, ◌%◌, ◌<◌, ◌≤◌, nat_lt, pos, Bool, true, false, List, [], ◌∷◌, Option, Some, None, slice_get, if◌then◌else◌, refl, ap, sym, subst, ◌∙◌, arith, ◌⊎◌, inl, inr, FitsSigned, IsUtf8, IsAscii}
 use Rattle.std.proofs.lemmas.Str.{IsUtf8-from_ascii}
 use Rattle.std.proofs.lemmas.Str.Ascii.{IsAscii-nil}
-use Rattle.std.proofs.lemmas.Bool.Decides.{Decides-ltb}
 use Rattle.std.specs.Int.{w64}
 use Rattle.con_terms.specs.Trees.{Cn}
 use Rattle.core_terms.specs.Trees.{Cd, Dt}
@@ -17,6 +16,7 @@ use Rattle.match_cover.proofs.Heads.{kept_tells, free_tells, one_free_passes, no
 use Rattle.match_cover.proofs.OverLiterals.{count_is}
 use Rattle.match_cover.proofs.Parts.{Enough, opened_tells}
 use Rattle.match_cover.proofs.Firsts.{FirstIs, first_is, of_data, of_fields, later, now, from_none}
+use Rattle.std.proofs.lemmas.Bool.{ltb-true as lt_of}
 
 -- shapes, one a column
 pub data Fits (ds : List Dt) : List Column → List Shp → Type 0 where
@@ -329,9 +329,6 @@ two_bytes : (a b : ℕ) → a < 128 → b < 128 → IsAscii (a ∷ b ∷ [])
 two_bytes a b h k zero = h
 two_bytes a b h k (suc zero) = k
 two_bytes a b h k (suc (suc i)) = omega arith
-
-lt_of : (a b : ℕ) → nat_lt a b ≡ true → a < b
-lt_of a b h = (Decides-ltb a b).0 h
 
 below : (b : Bool) (i : ℕ) → nat_lt i 129 ≡ b → i < 16384 → IsAscii (if b then (i - 1) ∷ [] else ((i - 129) / 128) ∷ (((i - 129) % 128) ∷ []))
 below true i e h = one_byte (i - 1) (let low : i < 129 = lt_of i 129 e in omega (arith, low))

@@ -1,9 +1,10 @@
 -- A type in normal form tells what its head at its arguments tells.
-use Rattle.std.proofs.Common.{◌≡◌, List, [], ◌∷◌, ◌++◌, refl, ap, sym, ◌∙◌}
+use Rattle.std.proofs.Common.{◌≡◌, List, ◌∷◌, ◌++◌, refl, ap, sym, ◌∙◌, []}
 use Rattle.con_terms.specs.Trees.{Cn, var, basic, arrow, poly, guarded, record_of, app, lambda, unit_con, name, row, cat, map_of, tuple, proj}
 use Rattle.core_terms.specs.Trees.{Dt}
 use Rattle.core_typing.specs.Seen.{seen_at, seen}
 use Rattle.match_cover.specs.Spines.{head_of, arguments_of}
+use Rattle.core_typing.proofs.Normal.{none_behind as nothing_behind}
 
 appended : (xs : List Cn) (a : Cn) (ys : List Cn) → (xs ++ a ∷ []) ++ ys ≡ xs ++ a ∷ ys
 appended [] a ys = refl
@@ -25,10 +26,6 @@ spine_seen ds (cat a b) xs = refl
 spine_seen ds (map_of k l) xs = refl
 spine_seen ds (tuple cs) xs = refl
 spine_seen ds (proj a n) xs = refl
-
-nothing_behind : (xs : List Cn) → xs ++ [] ≡ xs
-nothing_behind [] = refl
-nothing_behind (x ∷ xs) = ap (λ zs. x ∷ zs) (nothing_behind xs)
 
 pub whole_seen : (ds : List Dt) (c : Cn) → seen ds c ≡ seen_at ds (head_of c) (arguments_of c)
 whole_seen ds c = spine_seen ds c [] ∙ ap (seen_at ds (head_of c)) (nothing_behind (arguments_of c))

@@ -9,7 +9,7 @@ ghost use Rattle.match_cover.specs.View.{test_tree, tests_tree};
 
 use con_terms::{Con, Kind, Sym};
 use core_terms::{Pat, PatFields, PatForm};
-use kind_rules::compare::comparison_fuel;
+use kind_rules::comparison_fuel;
 use row_normal::NormalFault;
 use row_normal::normal::normal;
 use std::alloc::{AllocError, Global};

@@ -3,7 +3,7 @@ use crate::known::{KnownValue, ValueName};
 use crate::scope::Scope;
 use con_terms::{Con, Kind};
 use core_terms::BasisName;
-use kind_rules::compare::comparison_fuel;
+use kind_rules::comparison_fuel;
 use row_normal::normal::{normal, same};
 use row_normal::{Normal, NormalFault};
 use std::alloc::{AllocError, Global};

@@ -10,7 +10,7 @@ use crate::layers::{Entry, Layers};
 use crate::tops::Tops;
 use con_terms::{Con, Kind, Place, Sym, SymTable, copy_con, copy_kind};
 use core_terms::{BasisName, Symbols};
-use kind_rules::compare::normal_sides;
+use kind_rules::normal_sides;
 use kind_rules::scope::Scope as Kinds;
 use plain_tree::{BasisBuilder, Path};
 use std::alloc::{AllocError, Global};

@@ -3,7 +3,7 @@ use crate::known::{KnownBuilder, may_be_of_class};
 use crate::table::NameTable;
 use con_terms::{Con, Kind, Sym, SymTable, copy_con, copy_kind, same_kind};
 use core_terms::{Constructor, Datatype, FolderName, Folders, Foreigns, TypeName};
-use kind_rules::scope::{Basic, Scope as Kinds};
+use kind_rules::{Basic, Scope as Kinds};
 use plain_tree::Path;
 use std::alloc::{AllocError, Global};
 use table_rows::Text;

@@ -1,23 +1,14 @@
 -- What is added to a link, piece by piece.
-use Rattle.std.proofs.Common.{◌≡◌, ℕ, ◌<◌, Bool, true, false, nat_lt, length, List, [], ◌∷◌, ◌++◌, map, refl, ap, sym, ◌∙◌, subst, arith, ltb-true, lt-ltb}
+use Rattle.std.proofs.Common.{◌≡◌, ℕ, ◌<◌, Bool, true, false, nat_lt, length, List, ◌∷◌, ◌++◌, map, refl, ap, sym, ◌∙◌, subst, arith, ltb-true, lt-ltb, []}
 use Rattle.std.specs.String.{string_bytes}
 use Rattle.std.proofs.lemmas.List.{length-append}
 use Rattle.link_router.specs.Links.{joined}
 use Rattle.page_walk.specs.Links.{longest_link}
 use Rattle.page_walk.specs.Adding.{Holds, Adds}
 use Rattle.page_walk.specs.declared.links.Link.{Link}
-
-pub nothing_behind : {X : Type 0} (xs : List X) → xs ++ [] ≡ xs
-nothing_behind [] = refl
-nothing_behind (x ∷ xs) = ap (λ ys. x ∷ ys) (nothing_behind xs)
-
-pub and_and : {X : Type 0} (xs ys zs : List X) → (xs ++ ys) ++ zs ≡ xs ++ (ys ++ zs)
-and_and [] ys zs = refl
-and_and (x ∷ xs) ys zs = ap (λ us. x ∷ us) (and_and xs ys zs)
-
-pub joined_and : (ps qs : List (List ℕ)) → joined (ps ++ qs) ≡ joined ps ++ joined qs
-joined_and [] qs = refl
-joined_and (p ∷ ps) qs = ap (λ xs. (47 ∷ p) ++ xs) (joined_and ps qs) ∙ sym (and_and (47 ∷ p) (joined ps) (joined qs))
+pub use Rattle.link_router.proofs.Escapes.{joined-append as joined_and}
+pub use Rattle.run_values.proofs.Lists.{and_and}
+pub use Rattle.std.proofs.lemmas.List.{append-nil as nothing_behind}
 
 longer_still : (w more : List ℕ) → nat_lt longest_link (length w) ≡ true → nat_lt longest_link (length (w ++ more)) ≡ true
 longer_still w more h =

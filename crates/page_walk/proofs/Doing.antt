@@ -1,31 +1,12 @@
 -- What is still to be done for a page, with one thing more.
 use Rattle.std.proofs.Common.{◌≡◌, ℕ, List, [], ◌∷◌, ◌++◌, ◌+◌, arith, refl, ap, ◌∙◌, Bor}
-use Rattle.xml_trees.specs.Trees.{Trees, Nothing, Words, Element, trees_and, Built, Whole, Within, built_and}
+use Rattle.xml_trees.specs.Trees.{Nothing, Element, trees_and, Built, Within, built_and}
 use Rattle.xml_trees.specs.declared.tag.Tag.{Tag}
 use Rattle.xml_trees.specs.declared.attrs.Attr.{Attr}
 use Rattle.page_walk.specs.declared.trees.Todo.{Todo}
 use Rattle.run_values.specs.declared.page.Tree.{Tree}
 use Rattle.page_walk.specs.Walked.{trees, nodes, done, all_done, nodes_of, nodes_left}
-
-trees_and-nothing : (t : Trees) → trees_and t Nothing ≡ t
-trees_and-nothing Nothing = refl
-trees_and-nothing (Words text rest) = ap (Words text) (trees_and-nothing rest)
-trees_and-nothing (Element tag attrs inside rest) = ap (Element tag attrs inside) (trees_and-nothing rest)
-
-trees_and-and : (t u v : Trees) → trees_and (trees_and t u) v ≡ trees_and t (trees_and u v)
-trees_and-and Nothing u v = refl
-trees_and-and (Words text rest) u v = ap (Words text) (trees_and-and rest u v)
-trees_and-and (Element tag attrs inside rest) u v = ap (Element tag attrs inside) (trees_and-and rest u v)
-
--- no more trees
-pub nothing_more : (b : Built) → built_and b Nothing ≡ b
-nothing_more (Whole t) = ap Whole (trees_and-nothing t)
-nothing_more (Within outer tag attrs t) = ap (Within outer tag attrs) (trees_and-nothing t)
-
--- trees after trees
-pub trees_after : (b : Built) (t u : Trees) → built_and (built_and b t) u ≡ built_and b (trees_and t u)
-trees_after (Whole v) t u = ap Whole (trees_and-and v t u)
-trees_after (Within outer tag attrs v) t u = ap (Within outer tag attrs) (trees_and-and v t u)
+pub use Rattle.xml_trees.proofs.Growing.{built_and-nothing as nothing_more, built_and-and as trees_after}
 
 -- the last thing is done first
 pub last_is_first : (ts : List Todo) (t : Todo) (b : Built) → all_done (ts ++ t ∷ []) b ≡ all_done ts (done t b)

@@ -4,17 +4,16 @@ use Rattle.std.specs.List.{insert}
 use Rattle.std.specs.Ordering.{is_lt, nat_cmp}
 use Rattle.std.specs.Cmp.Lexicographic.{slice_cmp}
 use Rattle.std.proofs.lemmas.List.{map-append}
-use Rattle.con_terms.specs.Trees.{Kd, Cn, Prs}
-use Rattle.value_trees.specs.Values.{V, Vs, Act, Ev}
-use Rattle.run_values.specs.View.{value_tree, slot_tree, slots_tree, constr_step, env_step, act_step, held_step, value_step, folder_row_step, slot_step}
+use Rattle.value_trees.specs.Values.{V}
+use Rattle.run_values.specs.View.{value_tree, slot_tree, slots_tree}
 use Rattle.run_values.specs.declared.value.Slot.{Slot}
 use Rattle.run_values.specs.declared.value.Value.{Value}
 use Rattle.run_values.specs.declared.entry.Constr.TheViews.{out-Slot}
-use Rattle.run_values.specs.declared.entry.Constr.TheFolds.{fold_out-Slot}
 use Rattle.page_walk.specs.Adding.{ArePut, label, pending, place_in, put_value, put_named, sorted}
 use Rattle.page_walk.proofs.Forms.{last_first}
 use Rattle.page_walk.proofs.Whole.{next_back}
 use Rattle.page_walk.specs.declared.links.Labelled.{Labelled}
+use Rattle.run_values.proofs.Fields.{slot_is}
 
 put_one : (n : List ℕ) (v : V) (f : List ℕ × V) (fs : List (List ℕ × V)) (b : Bool) → put_value n v fs ≡ insert fs (place_in n fs) (n, v)
     → (if b then f ∷ put_value n v fs else (n, v) ∷ f ∷ fs) ≡ insert (f ∷ fs) (if b then suc (place_in n fs) else 0) (n, v)
@@ -45,10 +44,6 @@ pub put_at : (f : Labelled) (fs new : List Labelled) (i : ℕ) → new ≡ inser
 put_at f fs new i h e =
     ap (map label) h ∙ map_insert label fs i f ∙ ap (λ k. insert (map label fs) k (label f)) e
     ∙ sym (put_is (label f).0 (label f).1 (map label fs))
-
--- the fields of a record, the last first
-slot_is : (s : Slot) → slot_tree s ≡ ((out-Slot s).name.number, value_tree (out-Slot s).value)
-slot_is s = fold_out-Slot Cn Ev Act Vs V (Kd × Prs) (ℕ × V) constr_step env_step act_step held_step value_step folder_row_step slot_step s
 
 first_sorted : (names : List (List ℕ)) (s : Slot) (ss : List Slot)
     → sorted names (slots_tree (s ∷ ss)) ≡ put_named (slice_get names (out-Slot s).name.number) (value_tree (out-Slot s).value) (sorted names (slots_tree ss))

@@ -34,7 +34,8 @@ fn put_attributes<'a>(
     attributes: &'a Attributes,
 ) -> Result<(), AllocError>
     ensures { OnOk result (made_listed parts.new.items
-        ≡ goal.attributes_then (strip.strip_attributes (view.attributes_tree attributes.now)) (made_listed parts.old.items)) }
+        ≡ goal.attributes_then (strip.strip_attributes (view.attributes_tree attributes.now))
+        (made_listed parts.old.items)) }
 {
     put_all(parts, attributes.items.as_slice())
 }
@@ -91,7 +92,8 @@ fn put_pattern_fields<'a>(
     fields: &'a PatFields,
 ) -> Result<(), AllocError>
     ensures { OnOk result (made_listed parts.new.items
-        ≡ goal.pattern_fields_then (strip.strip_pattern_fields (view.pat_fields_tree fields.now)) (made_listed parts.old.items)) }
+        ≡ goal.pattern_fields_then (strip.strip_pattern_fields (view.pat_fields_tree fields.now))
+        (made_listed parts.old.items)) }
 {
     put_all(parts, fields.items.as_slice())
 }

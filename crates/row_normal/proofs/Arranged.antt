@@ -1,5 +1,6 @@
 -- A stable sort is the insertion sort.
 use Rattle.std.proofs.Common.{◌≡◌, ℕ, zero, suc, ◌+◌, ◌<◌, ◌≤◌, Bool, true, false, cond, not, ◌&&◌, if◌then◌else◌, List, [], ◌∷◌, ◌++◌, length, get_or, map, filter, refl, ap, sym, ◌∙◌, true≢false, arith}
+use Rattle.std.proofs.lemmas.Bool.{and_parts, not-true}
 use Rattle.std.specs.Cmp.{IsStrictWeakOrder}
 use Rattle.std.specs.List.Sorted.{ties, IsSortedBy, IsStableBy}
 use Rattle.std.proofs.lemmas.List.Sorted.{sorted_far}
@@ -9,14 +10,6 @@ use Rattle.row_normal.specs.Ordered.{before, insert, sorted}
 not_true : (b : Bool) → (b ≡ true → b ≡ false) → b ≡ false
 not_true true h = h refl
 not_true false h = refl
-
-not_false : (b : Bool) → not b ≡ true → b ≡ false
-not_false true h = absurd (true≢false (sym h))
-not_false false h = refl
-
-both : (a b : Bool) → (a && b) ≡ true → (a ≡ true) × (b ≡ true)
-both true b h = (refl, h)
-both false b h = absurd (true≢false (sym h))
 
 not_both : (a b : Bool) → (a ≡ true → b ≡ true → ⊥) → (a && b) ≡ false
 not_both true true h = absurd (h refl refl)
@@ -96,7 +89,7 @@ module _ {X : Type 0} (lt : X → X → Bool) where
     ties_own x = ap (λ b. not b && not b) (own x)
 
     pub tied : (x y : X) → ties lt x y ≡ true → (lt x y ≡ false) × (lt y x ≡ false)
-    tied x y h = let (p, q) = both (not (lt x y)) (not (lt y x)) h in (not_false (lt x y) p, not_false (lt y x) q)
+    tied x y h = let (p, q) = and_parts (not (lt x y)) (not (lt y x)) h in (not-true (lt x y) p, not-true (lt y x) q)
 
     tie : (x y : X) → lt x y ≡ false → lt y x ≡ false → ties lt x y ≡ true
     tie x y p q = ap (λ b. not b && not (lt y x)) p ∙ ap (λ b. not false && not b) q

@@ -16,7 +16,8 @@ abbrev pub codes : {X : Type 0} → (X → List ℕ) → List X → List ℕ
 codes f [] = []
 codes f (x ∷ xs) = f x ++ codes f xs
 
-open_at : {X : Type 0} (xs : List X) (i : ℕ) (x : X) → x ≡ get_or xs i x → i < length xs → drop i xs ≡ x ∷ drop (i + 1) xs
+-- what is left of a list from an index on, opened
+pub open_at : {X : Type 0} (xs : List X) (i : ℕ) (x : X) → x ≡ get_or xs i x → i < length xs → drop i xs ≡ x ∷ drop (i + 1) xs
 open_at xs i x e h = drop-cons xs i x h ∙ ap (λ y. y ∷ drop (suc i) xs) (sym e) ∙ ap (λ n. x ∷ drop n xs) (let p : suc i ≡ i + 1 = omega arith in p)
 
 -- one more

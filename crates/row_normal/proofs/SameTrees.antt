@@ -1,5 +1,6 @@
 -- Trees that compare as one are one.
-use Rattle.std.proofs.Common.{◌≡◌, ℕ, suc, ◌==◌, Bool, true, false, ◌&&◌, ◌+◌, ◌<◌, ◌≤◌, List, [], ◌∷◌, length, map, get_or, drop, drop-cons, drop_of_length-le, refl, ap, sym, ◌∙◌, arith}
+use Rattle.std.proofs.Common.{◌≡◌, ℕ, suc, ◌==◌, Bool, true, false, ◌&&◌, ◌+◌, ◌<◌, ◌≤◌, List, [], ◌∷◌, length, map, get_or, drop, drop_of_length-le, refl, ap, sym, ◌∙◌, arith, eqb-true}
+use mathlib.Core.Bool.{and-false}
 use Rattle.con_terms.specs.Trees.{Cn, var, basic, arrow, poly, guarded, record_of, app, lambda, unit_con, name, row, cat, map_of, tuple, proj, Cns, no_cons, con, Prs, no_pairs, pair}
 use Rattle.con_terms.specs.Same.{kd_eq}
 use Rattle.con_terms.specs.View.{con_tree, cons_tree, cons_from, pair_tree, pairs_tree, pairs_from}
@@ -11,10 +12,8 @@ use Rattle.con_terms.specs.declared.con.Con.TheViews.{out-Cons, out-Pairs}
 use Rattle.con_terms.proofs.Lists.{cons_tree_is, pairs_tree_is}
 use Rattle.con_terms.proofs.SameKinds.{kd_eq_same, kd_eq_refl}
 use Rattle.row_normal.specs.SameTree.{flag_eq, cn_eq, cns_eq, prs_eq}
+use Rattle.row_normal.proofs.Coded.{open_at}
 use Rattle.row_normal.proofs.Options.{both_from}
-
-number_same : (i j : ℕ) → (i == j) ≡ true → i ≡ j
-number_same i j h = grind (arith, h)
 
 number_refl : (i : ℕ) → (i == i) ≡ true
 number_refl i = grind arith
@@ -30,8 +29,8 @@ flag_refl false = refl
 
 mutual
   pub cn_eq_same : (c d : Cn) → cn_eq c d ≡ true → c ≡ d
-  cn_eq_same (var i) (var j) h = ap var (number_same i j h)
-  cn_eq_same (basic s) (basic t) h = ap basic (number_same s t h)
+  cn_eq_same (var i) (var j) h = ap var (eqb-true i j h)
+  cn_eq_same (basic s) (basic t) h = ap basic (eqb-true s t h)
   cn_eq_same (arrow a b) (arrow c d) h = let (p, q) = both_from (cn_eq a c) (cn_eq b d) h in ap (λ z. arrow z b) (cn_eq_same a c p) ∙ ap (λ z. arrow c z) (cn_eq_same b d q)
   cn_eq_same (poly x k a) (poly y l b) h =
       let (r, s) = both_from (flag_eq x y && kd_eq k l) (cn_eq a b) h in
@@ -45,12 +44,12 @@ mutual
   cn_eq_same (app a b) (app c d) h = let (p, q) = both_from (cn_eq a c) (cn_eq b d) h in ap (λ z. app z b) (cn_eq_same a c p) ∙ ap (λ z. app c z) (cn_eq_same b d q)
   cn_eq_same (lambda k a) (lambda l b) h = let (p, q) = both_from (kd_eq k l) (cn_eq a b) h in ap (λ z. lambda z a) (kd_eq_same k l p) ∙ ap (λ z. lambda l z) (cn_eq_same a b q)
   cn_eq_same unit_con unit_con h = refl
-  cn_eq_same (name s) (name t) h = ap name (number_same s t h)
+  cn_eq_same (name s) (name t) h = ap name (eqb-true s t h)
   cn_eq_same (row k ps) (row l qs) h = let (p, q) = both_from (kd_eq k l) (prs_eq ps qs) h in ap (λ z. row z ps) (kd_eq_same k l p) ∙ ap (λ z. row l z) (prs_eq_same ps qs q)
   cn_eq_same (cat a b) (cat c d) h = let (p, q) = both_from (cn_eq a c) (cn_eq b d) h in ap (λ z. cat z b) (cn_eq_same a c p) ∙ ap (λ z. cat c z) (cn_eq_same b d q)
   cn_eq_same (map_of k l) (map_of m n) h = let (p, q) = both_from (kd_eq k m) (kd_eq l n) h in ap (λ z. map_of z l) (kd_eq_same k m p) ∙ ap (λ z. map_of m z) (kd_eq_same l n q)
   cn_eq_same (tuple cs) (tuple ds) h = ap tuple (cns_eq_same cs ds h)
-  cn_eq_same (proj a m) (proj b n) h = let (p, q) = both_from (m == n) (cn_eq a b) h in ap (λ z. proj a z) (number_same m n p) ∙ ap (λ z. proj z n) (cn_eq_same a b q)
+  cn_eq_same (proj a m) (proj b n) h = let (p, q) = both_from (m == n) (cn_eq a b) h in ap (λ z. proj a z) (eqb-true m n p) ∙ ap (λ z. proj z n) (cn_eq_same a b q)
   cn_eq_same _ _ h = cc
 
   cns_eq_same : (cs ds : Cns) → cns_eq cs ds ≡ true → cs ≡ ds
@@ -96,15 +95,11 @@ mutual
 pub cn_eq_decides : (c d : Cn) → (cn_eq c d ≡ true → c ≡ d) × (c ≡ d → cn_eq c d ≡ true)
 cn_eq_decides c d = (cn_eq_same c d, λ e. ap (λ z. cn_eq c z) (sym e) ∙ cn_eq_refl c)
 
-and_false : (b : Bool) → (b && false) ≡ false
-and_false true = refl
-and_false false = refl
-
 cons_lengths_differ : (cs ds : List Con) → (length cs ≡ length ds → ⊥) → cns_eq (cons_from (map con_tree cs)) (cons_from (map con_tree ds)) ≡ false
 cons_lengths_differ [] [] h = absurd (h refl)
 cons_lengths_differ [] (d ∷ ds) h = refl
 cons_lengths_differ (c ∷ cs) [] h = refl
-cons_lengths_differ (c ∷ cs) (d ∷ ds) h = ap (λ b. cn_eq (con_tree c) (con_tree d) && b) (cons_lengths_differ cs ds (λ e. h (ap suc e))) ∙ and_false (cn_eq (con_tree c) (con_tree d))
+cons_lengths_differ (c ∷ cs) (d ∷ ds) h = ap (λ b. cn_eq (con_tree c) (con_tree d) && b) (cons_lengths_differ cs ds (λ e. h (ap suc e))) ∙ and-false (cn_eq (con_tree c) (con_tree d))
 
 pub cons_differ : (cs ds : Cons) → (length (out-Cons cs).items.items ≡ length (out-Cons ds).items.items → ⊥) → cns_eq (cons_tree cs) (cons_tree ds) ≡ false
 cons_differ cs ds h = ap (λ t. cns_eq t (cons_tree ds)) (cons_tree_is cs) ∙ ap (λ t. cns_eq (cons_from (map con_tree (out-Cons cs).items.items)) t) (cons_tree_is ds) ∙ cons_lengths_differ _ _ h
@@ -115,13 +110,10 @@ pairs_lengths_differ [] (d ∷ ds) h = refl
 pairs_lengths_differ (c ∷ cs) [] h = refl
 pairs_lengths_differ (c ∷ cs) (d ∷ ds) h =
     ap (λ b. (cn_eq (pair_tree c).0 (pair_tree d).0 && cn_eq (pair_tree c).1 (pair_tree d).1) && b) (pairs_lengths_differ cs ds (λ e. h (ap suc e)))
-    ∙ and_false (cn_eq (pair_tree c).0 (pair_tree d).0 && cn_eq (pair_tree c).1 (pair_tree d).1)
+    ∙ and-false (cn_eq (pair_tree c).0 (pair_tree d).0 && cn_eq (pair_tree c).1 (pair_tree d).1)
 
 pub pairs_differ : (ps qs : Pairs) → (length (out-Pairs ps).items.items ≡ length (out-Pairs qs).items.items → ⊥) → prs_eq (pairs_tree ps) (pairs_tree qs) ≡ false
 pairs_differ ps qs h = ap (λ t. prs_eq t (pairs_tree qs)) (pairs_tree_is ps) ∙ ap (λ t. prs_eq (pairs_from (map pair_tree (out-Pairs ps).items.items)) t) (pairs_tree_is qs) ∙ pairs_lengths_differ _ _ h
-
-open_at : (xs : List Pair) (i : ℕ) (x : Pair) → x ≡ get_or xs i x → i < length xs → drop i xs ≡ x ∷ drop (i + 1) xs
-open_at xs i x e h = drop-cons xs i x h ∙ ap (λ y. y ∷ drop (suc i) xs) (sym e) ∙ ap (λ n. x ∷ drop n xs) (let p : suc i ≡ i + 1 = omega arith in p)
 
 -- one field more, and no more fields
 pub prs_eq_next : (ps qs : List Pair) (i : ℕ) (x y : Pair) → x ≡ get_or ps i x → y ≡ get_or qs i y → i < length ps → i < length qs →

@@ -45,7 +45,8 @@ pieces_joined k [] = refl
 pieces_joined k (p ∷ []) = sym (append-nil (ordered_pieces p))
 pieces_joined k (p ∷ q ∷ ps) = ap (λ l. ordered_pieces p ++ l) (pieces_joined k (q ∷ ps))
 
-joined_kind : (j k : Kd) (p : Cn) (ps : List Cn) → joined j (p ∷ ps) ≡ joined k (p ∷ ps)
+-- the kind that is given for no pieces doesn't matter to some
+pub joined_kind : (j k : Kd) (p : Cn) (ps : List Cn) → joined j (p ∷ ps) ≡ joined k (p ∷ ps)
 joined_kind j k p [] = refl
 joined_kind j k p (q ∷ ps) = ap (cat p) (joined_kind j k q ps)
 

@@ -14,7 +14,8 @@ abbrev mutual
   put_kind tight names text = put_word (codes "Name") text
   put_kind tight (row_of k) text = put_word (codes "}") (put_kind false k (put_word (codes "{") text))
   put_kind tight (to k l) text =
-      put_wanted tight (codes ")") (put_kind false l (put_word (codes "->") (put_kind true k (put_wanted tight (codes "(") text))))
+      put_wanted tight (codes ")") (put_kind false l (put_word (codes "->") (put_kind true k
+      (put_wanted tight (codes "(") text))))
   put_kind tight (tuple_of ks) text = put_word (codes ")") (put_kinds true ks (put_word (codes "(") text))
 
   pub put_kinds : Bool → Kds → List ℕ → List ℕ
@@ -45,7 +46,8 @@ abbrev mutual
       (put_wanted (nat_lt 0 level) (codes "(") text))))
   put_con g called level (poly x k b) text =
       put_wanted (nat_lt 0 level) (codes ")") (put_con g (new_name called k ∷ called) 0 b (put_word (codes "->")
-      (put_kind true k (put_word (colons x) (put_word (new_name called k) (put_wanted (nat_lt 0 level) (codes "(") text))))))
+      (put_kind true k (put_word (colons x) (put_word (new_name called k)
+      (put_wanted (nat_lt 0 level) (codes "(") text))))))
   put_con g called level (guarded a b c) text =
       put_wanted (nat_lt 0 level) (codes ")") (put_con g called 0 c (put_word (codes "=>") (put_word (codes "]")
       (put_con g called 1 b (put_word (codes "~") (put_con g called 1 a (put_word (codes "[")
@@ -87,7 +89,8 @@ abbrev mutual
 -- a field alone
 abbrev pub put_field : Known → List (List ℕ) → Cn × Cn → List ℕ → List ℕ
 put_field g called p text =
-    put_value (is_unit p.1) (put_con g called 0 p.1) (put_name (literal_text g (literal p.0)) (put_con g called 3 p.0) text)
+    put_value (is_unit p.1) (put_con g called 0 p.1)
+    (put_name (literal_text g (literal p.0)) (put_con g called 3 p.0) text)
 
 -- a field by its name, where that is a literal one
 abbrev pub by_name : Known → Cn × Cn → Option (List ℕ) × (Cn × Cn)

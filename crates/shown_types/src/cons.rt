@@ -31,8 +31,8 @@ pub const APPLIED: u32 = 2;
 /// Only what is one piece stands here.
 pub const PIECE: u32 = 3;
 
-/// Puts a constructor behind a text where a level wants it, so many levels of it at most. `called` is what the variables
-/// in scope are called, the innermost first.
+/// Puts a constructor behind a text where a level wants it, so many levels of it at most. `called` is what the
+/// variables in scope are called, the innermost first.
 #[cycle(con)]
 pub fn put_con(
     known: &Known<'_>,
@@ -175,8 +175,8 @@ fn put_poly(
     room: u32,
 ) -> Result<(), AllocError>
     ensures { OnOk result (line.new ≡ put_wanted tight (codes ")")
-        (with_con (known_view known.now) (new_name_of called.now (kind_tree kind.now) ∷ called.now) 0 (con_tree body.now)
-        (put_word (codes "->") (with_kind true (kind_tree kind.now) (put_word (colons_of implicit)
+        (with_con (known_view known.now) (new_name_of called.now (kind_tree kind.now) ∷ called.now) 0
+        (con_tree body.now) (put_word (codes "->") (with_kind true (kind_tree kind.now) (put_word (colons_of implicit)
         (put_word (new_name_of called.now (kind_tree kind.now)) (put_wanted tight (codes "(") line.old))))))) }
 {
     let name = new_name(known.alloc, called, kind)?;
@@ -202,8 +202,8 @@ fn put_lambda(
     room: u32,
 ) -> Result<(), AllocError>
     ensures { OnOk result (line.new ≡ put_wanted tight (codes ")")
-        (with_con (known_view known.now) (new_name_of called.now (kind_tree kind.now) ∷ called.now) 0 (con_tree body.now)
-        (put_word (codes "=>") (with_kind false (kind_tree kind.now) (put_word (codes "::")
+        (with_con (known_view known.now) (new_name_of called.now (kind_tree kind.now) ∷ called.now) 0
+        (con_tree body.now) (put_word (codes "=>") (with_kind false (kind_tree kind.now) (put_word (codes "::")
         (put_word (new_name_of called.now (kind_tree kind.now)) (put_word (codes "fn")
         (put_wanted tight (codes "(") line.old)))))))) }
 {

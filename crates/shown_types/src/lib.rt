@@ -14,9 +14,9 @@ pub mod rows;
 pub mod told;
 
 pub use called::{inside, new_name, variable};
-pub use cons::put_con;
+pub use cons::{put_con, put_name};
 pub use kinds::put_kind;
-pub use known::{Declared, Known, put_builder};
+pub use known::{Declared, Known, put_builder, text};
 pub use line::Line;
 pub use program::{called_by, folders_of, types_of};
-pub use told::{differing_kinds, differing_types, two_types};
+pub use told::{LEVELS, differing_kinds, differing_types, two_types};

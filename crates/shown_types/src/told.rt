@@ -25,7 +25,8 @@ pub fn differing_kinds(
     found: &Kind,
 ) -> Result<String, AllocError>
     ensures { IfOk result (λ text. string_bytes text ≡ beginning.now
-        ++ spaced (differing_words (kind_words false (kind_tree wanted.now)) (kind_words false (kind_tree found.now)))) }
+        ++ spaced (differing_words (kind_words false (kind_tree wanted.now))
+        (kind_words false (kind_tree found.now)))) }
 {
     let mut line = Line::of(alloc, beginning)?;
     line.word("wanted")?;

@@ -1,5 +1,5 @@
 -- The types that every program has, by their names.
-use Rattle.std.proofs.Common.{◌≡◌, ◌≢◌, Bool, true, false, List, [], ◌∷◌, Option, Some, None, IfSome, IfNone, refl, ap, sym, ◌∙◌, if◌then◌else◌}
+use Rattle.std.proofs.Common.{◌≡◌, ◌≢◌, Bool, false, List, [], ◌∷◌, Option, Some, None, IfSome, IfNone, refl, ap, sym, ◌∙◌, if◌then◌else◌}
 use Rattle.std.specs.Str.{bytes_eq}
 use Rattle.std.proofs.lemmas.Slice.Eq.{bytes_eq-Decides}
 use Rattle.core_terms.specs.BasisTexts.{type_text}
@@ -7,15 +7,12 @@ use Rattle.core_terms.specs.declared.basis.TypeName.{TypeName}
 use Rattle.core_terms.specs.declared.basis.TypeName.TheVariants as type_name
 use Rattle.source_names.specs.Scopes.{Words}
 use Rattle.source_names.specs.Standing.{type_called, type_names}
+use Rattle.std.proofs.lemmas.Bool.{false_from_ne_true as unless_true}
 
-unless_true : (b : Bool) → (b ≡ true → ⊥) → b ≡ false
-unless_true true h = absurd (h refl)
-unless_true false h = refl
-
-differs : (x y : Words) → x ≢ y → bytes_eq x y ≡ false
+pub differs : (x y : Words) → x ≢ y → bytes_eq x y ≡ false
 differs x y h = unless_true (bytes_eq x y) (λ e. h ((bytes_eq-Decides x y).0 e))
 
-called_by_its_text : (n : TypeName) → type_called (type_text n) type_names ≡ Some n
+pub called_by_its_text : (n : TypeName) → type_called (type_text n) type_names ≡ Some n
 called_by_its_text type_name.Int = refl
 called_by_its_text type_name.String = refl
 called_by_its_text type_name.Url = refl

@@ -4,7 +4,7 @@ use Rattle.std.proofs.lemmas.List.{take_all, take_more, map-append, reverse-appe
 use Rattle.source_names.specs.Scopes.{Words, capital}
 use Rattle.source_names.specs.Standing.{home_of, module_named}
 
-turned_last : {A B : Type 0} (f : A → B) (xs : List A) (d : A) → 0 < length xs →
+pub turned_last : {A B : Type 0} (f : A → B) (xs : List A) (d : A) → 0 < length xs →
     reverse (map f xs) ≡ f (get_or xs (length xs - 1) d) ∷ reverse (map f (take (length xs - 1) xs))
 turned_last f xs d h =
     ap (λ l. reverse (map f l))

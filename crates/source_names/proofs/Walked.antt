@@ -1,5 +1,5 @@
 -- Walks over the lists of a source.
-use Rattle.std.proofs.Common.{◌≡◌, ℕ, suc, ◌+◌, ◌-◌, ◌<◌, ◌≤◌, Bool, true, false, ◌&&◌, List, [], ◌∷◌, ◌++◌, length, map, take, drop, get_or, Option, Some, drop-cons, refl, ap, sym, ◌∙◌, arith, rules, Box, Global}
+use Rattle.std.proofs.Common.{◌≡◌, ℕ, suc, ◌+◌, ◌-◌, ◌<◌, ◌≤◌, Bool, true, false, ◌&&◌, List, [], ◌∷◌, ◌++◌, length, map, take, drop, get_or, Option, Some, refl, ap, sym, ◌∙◌, arith, rules, Box, Global}
 use Rattle.std.proofs.lemmas.List.{take_all, take_more, map-append}
 use Rattle.con_terms.specs.Trees.{Cn, Cns, Prs}
 use Rattle.con_terms.specs.View.{con_tree, cons_tree, cons_from, pair_tree, pairs_tree, pairs_from}
@@ -22,6 +22,8 @@ use Rattle.plain_tree.specs.declared.con.ConForm.TheFolds as folds
 use Rattle.source_names.specs.Scopes.{Scope}
 use Rattle.source_names.specs.Parts.{if_any, if_both}
 use Rattle.source_names.specs.Reading.{is_app, is_cat, reads_con, reads_apps, reads_cats, reads_cons, reads_con_field, reads_con_fields}
+use Rattle.row_normal.proofs.Coded.{open_at}
+pub use Rattle.std.proofs.lemmas.Bool.{and_right as second_fails}
 
 -- the trees of a list of a source, and of a list of constructors
 abbrev pub sources : List source_con.Con → ConsTree
@@ -61,7 +63,7 @@ pub all_sources : (cs : source_cons.Cons) (n : ℕ) → length (views.out-Cons c
     plain.cons_tree cs ≡ sources (take n (views.out-Cons cs).items.items)
 all_sources cs n h = sources_are cs ∙ ap sources (sym (take_all n (views.out-Cons cs).items.items h))
 
-and_false : (b : Bool) → (b && false) ≡ false
+pub and_false : (b : Bool) → (b && false) ≡ false
 and_false true = refl
 and_false false = refl
 
@@ -71,19 +73,9 @@ first_fails a b e = ap (λ z. z && b) e
 pub first_passes : (a b : Bool) → a ≡ true → (a && b) ≡ b
 first_passes a b e = ap (λ z. z && b) e
 
-pub second_fails : (a b : Bool) → b ≡ false → (a && b) ≡ false
-second_fails a b e = ap (λ z. a && z) e ∙ and_false a
-
 pub second_passes : (a b : Bool) → b ≡ true → (a && b) ≡ a
 second_passes true b e = e
 second_passes false b e = refl
-
-open_at : {A : Type 0} (xs : List A) (i : ℕ) (x : A) → x ≡ get_or xs i x → i < length xs →
-    drop i xs ≡ x ∷ drop (i + 1) xs
-open_at xs i x e h =
-    drop-cons xs i x h
-    ∙ ap (λ y. y ∷ drop (suc i) xs) (sym e)
-    ∙ ap (λ n. x ∷ drop n xs) (let p : suc i ≡ i + 1 = omega arith in p)
 
 -- the last one of the first so many
 last_of : {A B : Type 0} (f : A → B) (xs : List A) (left : ℕ) (x : A) → 0 < left → left ≤ length xs →

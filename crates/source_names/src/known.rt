@@ -8,9 +8,7 @@ ghost use Rattle.source_names.specs.View.{builder_found, declared_view};
 
 use crate::marked::{KnownValue, is_value, mark_of};
 use crate::texts::same_text;
-use con_terms::con::Con;
-use con_terms::copy::copy_con;
-use con_terms::symbol::Sym;
+use con_terms::{Con, Sym, copy_con};
 use plain_tree::Path;
 use std::alloc::{AllocError, Global};
 use table_rows::Text;

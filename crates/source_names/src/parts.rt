@@ -6,7 +6,7 @@ ghost use Rattle.con_terms.specs.View.{con_tree};
 ghost use Rattle.source_names.specs.Parts.{if_any, if_both, two_trees};
 ghost use Rattle.source_names.specs.Reading as reading;
 
-use con_terms::con::Con;
+use con_terms::Con;
 use plain_tree::{Numbers, Places};
 
 /// The two sides of an application, or of a concatenation.

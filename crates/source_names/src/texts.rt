@@ -5,7 +5,7 @@ ghost use Rattle.source_names.specs.Standing as standing;
 ghost use Rattle.source_names.specs.View.{scope_view};
 
 use crate::here::Here;
-use con_terms::symbol::Sym;
+use con_terms::Sym;
 use std::alloc::AllocError;
 use table_rows::Text;
 

@@ -7,12 +7,12 @@ ghost use Rattle.source_names.specs.Standing as standing;
 ghost use Rattle.source_names.specs.View.{folder_symbol, scope_view};
 
 use crate::here::{Here, binder_at};
-use con_terms::con::Con;
+use con_terms::Con;
 use core_terms::{Folders, TypeName};
 use plain_tree::Path;
-use row_normal::same::same_con;
+use row_normal::same_con;
 use std::alloc::{AllocError, Global};
-use type_makers::by_name::{named_type, type_named};
+use type_makers::{named_type, type_named};
 
 /// Whether a constructor is the variable of a binder.
 fn is_variable(con: &Con, number: u32) -> bool

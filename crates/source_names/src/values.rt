@@ -10,7 +10,7 @@ use core_terms::{Foreigns, Form};
 use plain_tree::Path;
 use std::alloc::AllocError;
 use table_rows::Text;
-use type_makers::by_name::value_text;
+use type_makers::value_text;
 
 /// Whether a form is the variable of a binder.
 fn is_binder(form: &Form, number: u32) -> bool

@@ -1,9 +1,10 @@
 -- Every form of the grammar, so that a law of all forms is one computation.
-use Rattle.std.proofs.Common.{◌≡◌, ◌<◌, ℕ, zero, suc, List, [], ◌∷◌, length, get_or, refl, subst, arith, Bool, true, false, ◌&&◌, nat_lt}
+use Rattle.std.proofs.Common.{◌≡◌, ◌<◌, ℕ, zero, suc, List, [], ◌∷◌, length, get_or, refl, subst, arith, Bool, true, ◌&&◌, nat_lt, ltb-true}
 use denote.Enum.Declared.{tag_of}
 use Rattle.surface_grammar.specs.declared.form.Form.{Form}
 use Rattle.surface_grammar.specs.declared.form.Form.TheVariants as f
 use Rattle.surface_grammar.specs.contracts.form.Form.{the_type}
+use Rattle.surface_grammar.proofs.Bools.{and_left, and_right}
 
 abbrev pub forms : List Form
 forms =
@@ -42,17 +43,6 @@ pub low : (g : Form) → nat_lt (tag_of the_type g) (length forms) ≡ true
 low f.KindTerm = refl
 low _ = refl
 
-pub less : (a b : ℕ) → nat_lt a b ≡ true → a < b
-less a b h = search (arith, h)
-
-and_left : (a b : Bool) → (a && b) ≡ true → a ≡ true
-and_left true b h = refl
-and_left false b h = cc
-
-and_right : (a b : Bool) → (a && b) ≡ true → b ≡ true
-and_right true b h = h
-and_right false b h = cc
-
 every_at : (p : Form → Bool) (gs : List Form) (i : ℕ) (d : Form) → every_form p gs ≡ true → i < length gs → p (get_or gs i d) ≡ true
 every_at p [] i d h lt = absurd (omega arith)
 every_at p (g ∷ gs) zero d h lt = and_left (p g) (every_form p gs) h
@@ -62,4 +52,4 @@ every_at p (g ∷ gs) (suc i) d h lt = every_at p gs i d (and_right (p g) (every
 pub of_each : (p : Form → Bool) → every_form p forms ≡ true → (g : Form) → p g ≡ true
 of_each p h g =
     subst (λ x. p x ≡ true) (found g)
-    (every_at p forms (tag_of the_type g) f.KindTerm h (less (tag_of the_type g) (length forms) (low g)))
+    (every_at p forms (tag_of the_type g) f.KindTerm h (ltb-true (tag_of the_type g) (length forms) (low g)))

@@ -1,5 +1,5 @@
--- The number of a kind is its place among the kinds (for `words.is_same`, and so for `words.accepts`).
-pub mod Codes
+-- The sides of what holds both ways (for Every, and for grammar_engine).
+pub mod Bools
 -- Every form of the grammar, so that a law of all forms is one computation (for Listed, and for grammar_engine).
 pub mod Every
 -- However many trees lie within each other, a form begins with no other word (law `words_are_computed`).

@@ -4,6 +4,7 @@ use Rattle.std.proofs.lemmas.Bool.{ltb-true, ltb-false}
 use Rattle.con_terms.specs.declared.place.Place.{Place}
 use Rattle.core_typing.specs.Faults.{Earlier}
 use Rattle.told_faults.specs.Computed.{sooner}
+pub use Rattle.core_typing.proofs.ExampleFaults.{not_before_itself as not_itself}
 
 -- places as numbers
 abbrev before : ℕ → ℕ → ℕ → ℕ → Type 0
@@ -59,10 +60,6 @@ stands_before g f o n h = later g.file g.at f.file f.at o.file o.at n h
 -- g isn't before o, o isn't before f: g isn't before f
 pub none_before : (g f o : Place) → (Earlier g o → ⊥) → (Earlier o f → ⊥) → Earlier g f → ⊥
 none_before g f o n m h = n (stands_before o f g m h)
-
-pub not_itself : (p : Place) → Earlier p p → ⊥
-not_itself p (inl h) = omega (arith, h)
-not_itself p (inr (h, k)) = omega (arith, k)
 
 pub never_both : (p q : Place) → Earlier q p → Earlier p q → ⊥
 never_both p q (inl h) (inl k) = omega (arith, h, k)

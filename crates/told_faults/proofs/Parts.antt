@@ -1,10 +1,10 @@
 -- What comparisons, kinds and heads of types tell.
-use Rattle.std.proofs.Common.{◌≡◌, ℕ, Bool, true, false, List, Option, Some, None, Result, Ok, Err, ◌⊎◌, inl, inr, if◌then◌else◌, refl, ap, sym, ◌∙◌, subst}
+use Rattle.std.proofs.Common.{◌≡◌, Bool, true, false, Option, Some, None, Result, Ok, Err, ◌⊎◌, inl, inr, if◌then◌else◌, refl, ap, sym, ◌∙◌, subst}
 use Rattle.con_terms.specs.Trees.{Kd, Cn}
 use Rattle.con_terms.specs.declared.place.Place.{Place}
 use Rattle.row_normal.specs.SameTree.{cn_eq}
 use Rattle.row_normal.proofs.SameTrees.{cn_eq_same, cn_eq_refl}
-use Rattle.kind_rules.specs.Flaws.{Flw, unbound_variable, unbound_basic, kinds_differ, pieces_touch}
+use Rattle.kind_rules.specs.Flaws.{Flw}
 use Rattle.kind_rules.specs.Flaws as flaw
 use Rattle.kind_rules.specs.Kinding.{judged_at}
 use Rattle.kind_rules.specs.Compared.{comparison_units, normal_forms}
@@ -13,7 +13,7 @@ use Rattle.core_typing.specs.Scopes.{Sc}
 use Rattle.core_typing.specs.Found.{Found}
 use Rattle.core_typing.specs.Judged.{HasKind, LacksKind, lacks, flaw_at}
 use Rattle.core_typing.specs.Faults.{Fault, at, Earlier, mismatch}
-use Rattle.core_typing.specs.Own.{Wants, other, large, NotOf, other_form, large_form}
+use Rattle.core_typing.specs.Own.{Wants, other, large}
 use Rattle.core_typing.proofs.DecidedForms.{only_large, kind_found}
 use Rattle.core_typing.proofs.Excluded.{wants_out, kind_out}
 use Rattle.core_typing.proofs.OneType.{one_found}
@@ -22,6 +22,7 @@ use Rattle.told_faults.specs.Heads.{Wanted, agree, disagree, Kindly, kindly, unk
 use Rattle.told_faults.specs.Told.{TypeIs, Picks, OfType}
 use Rattle.told_faults.proofs.Ordering.{not_itself}
 use Rattle.told_faults.proofs.Verdict.{picks_as}
+pub use Rattle.core_typing.proofs.ExampleFaults.{wants_at, form_at, flaw_place as flaw_stands, kind_at as lacks_at}
 
 pub same_type : {G : Sc} {e : Ex} {t u : Cn} (P : Cn → Type 0) → Found G e t → Found G e u → P u → P t
 same_type P h k x = subst P (one_found k h) x
@@ -42,24 +43,6 @@ picks_of_type G e P F h (Some t) v = picks_as (P t) (OfType G e P) (F t) there b
 -- faults that all stand at one place
 pub at_one : (P : Fault → Type 0) (p : Place) (f : Fault) → ((g : Fault) → P g → at g ≡ p) → P f → Picks P (Some f)
 at_one P p f all x = (x, λ g y e. not_itself (at f) (subst (λ q. Earlier q (at f)) (all g y ∙ sym (all f x)) e))
-
-pub wants_at : {G : Sc} {p : Place} {t u : Cn} {f : Fault} → Wants G p t u f → at f ≡ p
-wants_at (other d) = refl
-wants_at (large l) = refl
-
-pub flaw_stands : (p : Place) (xs : List ℕ) (w : Flw) → at (flaw_at p xs w) ≡ p
-flaw_stands p xs (unbound_variable i) = refl
-flaw_stands p xs (unbound_basic s) = refl
-flaw_stands p xs (kinds_differ k l) = refl
-flaw_stands p xs (pieces_touch c d) = refl
-flaw_stands p xs flaw.too_large = refl
-
-pub lacks_at : {G : Sc} {p : Place} {c : Cn} {k : Kd} {f : Fault} → LacksKind G p c k f → at f ≡ p
-lacks_at {G} {p = p} (lacks {w = w} h) = flaw_stands p G.called w
-
-pub form_at : {F : Cn → Type 0} {G : Sc} {p : Place} {w t : Cn} {f : Fault} → NotOf F G p w t f → at f ≡ p
-form_at (other_form h k) = refl
-form_at (large_form h) = refl
 
 -- comparison
 not_same : (c d : Cn) → cn_eq c d ≡ false → c ≡ d → ⊥

@@ -1,7 +1,6 @@
--- Faults as they are computed: the earlier of two, the flaw of a kinding, what a comparison tells, what a type's
--- normal form has
--- at its head. A judgement doesn't stop at the first fault: it has a type, where one is found, and a told fault, where
--- there is one.
+-- Faults as they are computed: the earlier of two, the flaw of a kinding, what a comparison tells, what a type's normal
+-- form has at its head. A judgement doesn't stop at the first fault: it has a type, where one is found, and a told
+-- fault, where there is one.
 use Rattle.std.specs.Prelude.{Bool, true, false, Option, Some, None, Result, Ok, Err, nat_lt, if◌then◌else◌}
 use Rattle.con_terms.specs.Trees.{Kd, Cn, arrow, poly, guarded, record_of}
 use Rattle.con_terms.specs.declared.place.Place.{Place}

@@ -4,7 +4,7 @@
 use con_terms::{Con, Kind, Place, Sym};
 use core_terms::{AttrName, Symbols};
 use disjoint_prover::fault::Pieces;
-use kind_rules::flaw::Differing;
+use kind_rules::Differing;
 use table_rows::{Text, Texts};
 
 /// Two types' normal forms that differ.

@@ -12,7 +12,7 @@ ghost use Rattle.type_faults.specs.View.{fault_tree, maybe_fault};
 use crate::fault::{Fault, Name, Types};
 use con_terms::{Con, Kind, Place};
 use core_terms::Symbols;
-use kind_rules::flaw::Flaw;
+use kind_rules::Flaw;
 use std::alloc::{AllocError, Global};
 
 /// A flaw as the fault of a place, where the constructor variables in scope are called so.

@@ -1,25 +1,16 @@
 -- Values, types and attributes that every program has, by their names.
-use Rattle.std.proofs.Common.{◌≡◌, ◌≢◌, Bool, true, false, ◌||◌, List, [], ◌∷◌, Option, Some, None, IfSome, IfNone, refl, ap, sym, ◌∙◌, if◌then◌else◌}
-use Rattle.std.specs.Str.{bytes_eq}
-use Rattle.std.proofs.lemmas.Slice.Eq.{bytes_eq-Decides}
-use Rattle.core_terms.specs.BasisTexts.{value_text, type_text}
+use Rattle.std.proofs.Common.{◌≡◌, ◌≢◌, true, false, ◌||◌, List, ◌∷◌, refl, ap, sym, ◌∙◌, []}
+use Rattle.core_terms.specs.BasisTexts.{value_text}
 use Rattle.core_terms.specs.declared.basis.BasisName.{BasisName}
 use Rattle.core_terms.specs.declared.basis.BasisName.TheVariants as value
-use Rattle.core_terms.specs.declared.basis.TypeName.{TypeName}
 use Rattle.core_terms.specs.declared.basis.TypeName.TheVariants as type_name
 use Rattle.source_names.specs.Scopes.{Words}
-use Rattle.source_names.specs.Standing.{type_called, type_names}
 use Rattle.unbound_names.specs.InScope.{is_value_of, basis_values, is_attribute_of, attributes}
 use Rattle.xml_trees.specs.SourceNames.{attribute_text}
 use Rattle.xml_trees.specs.declared.source_name.AttrName.{AttrName}
 use Rattle.xml_trees.specs.declared.source_name.AttrName.TheVariants as attr
-
-unless_true : (b : Bool) → (b ≡ true → ⊥) → b ≡ false
-unless_true true h = absurd (h refl)
-unless_true false h = refl
-
-differs : (x y : Words) → x ≢ y → bytes_eq x y ≡ false
-differs x y h = unless_true (bytes_eq x y) (λ e. h ((bytes_eq-Decides x y).0 e))
+use Rattle.source_names.proofs.BasisTypes.{differs}
+pub use Rattle.source_names.proofs.BasisTypes.{type_is}
 
 value_of_its_text : (v : BasisName) → is_value_of (value_text v) basis_values ≡ true
 value_of_its_text value.Return = refl
@@ -73,42 +64,6 @@ no_value_of x (v ∷ vs) h = ap (λ b. b || is_value_of x vs) (differs (value_te
 
 pub value_there : (v : BasisName) (x : Words) → value_text v ≡ x → true ≡ is_value_of x basis_values
 value_there v x e = sym (ap (λ y. is_value_of y basis_values) (sym e) ∙ value_of_its_text v)
-
-type_of_its_text : (n : TypeName) → type_called (type_text n) type_names ≡ Some n
-type_of_its_text type_name.Int = refl
-type_of_its_text type_name.String = refl
-type_of_its_text type_name.Url = refl
-type_of_its_text type_name.Unit = refl
-type_of_its_text type_name.Bool = refl
-type_of_its_text type_name.Option = refl
-type_of_its_text type_name.List = refl
-type_of_its_text type_name.Transaction = refl
-type_of_its_text type_name.Xml = refl
-type_of_its_text type_name.Page = refl
-type_of_its_text type_name.Xbody = refl
-type_of_its_text type_name.Xtable = refl
-type_of_its_text type_name.Xtr = refl
-type_of_its_text type_name.Show = refl
-type_of_its_text type_name.Eq = refl
-type_of_its_text type_name.Ord = refl
-type_of_its_text type_name.Num = refl
-type_of_its_text type_name.SqlTable = refl
-type_of_its_text type_name.SqlQuery = refl
-type_of_its_text type_name.SqlExp = refl
-type_of_its_text type_name.Dml = refl
-type_of_its_text type_name.SqlSequence = refl
-type_of_its_text type_name.HttpCookie = refl
-type_of_its_text type_name.SqlInjectable = refl
-
-no_type_of : (x : Words) (ns : List TypeName) → ((n : TypeName) → type_text n ≢ x) → type_called x ns ≡ None
-no_type_of x [] h = refl
-no_type_of x (n ∷ ns) h =
-    ap (λ b. if b then Some n else type_called x ns) (differs (type_text n) x (h n)) ∙ no_type_of x ns h
-
-pub type_is : (o : Option TypeName) (x : Words) → IfSome o (λ n. type_text n ≡ x)
-    → IfNone o ((n : TypeName) → type_text n ≢ x) → o ≡ type_called x type_names
-type_is None x some none = sym (no_type_of x type_names none)
-type_is (Some n) x some none = sym (ap (λ y. type_called y type_names) (sym some) ∙ type_of_its_text n)
 
 attribute_of_its_text : (a : AttrName) → is_attribute_of (attribute_text a) attributes ≡ true
 attribute_of_its_text attr.Title = refl

@@ -1,6 +1,7 @@
 -- The front of a constructor, which is none of a kind.
 use Rattle.std.proofs.Common.{◌≡◌, ℕ, List, [], ◌∷◌, ◌++◌, append_assoc, refl, ap, sym, ◌∙◌, Bool, true, false, not, ◌&&◌, ◌||◌, Option}
 use Rattle.std.proofs.Math.Logic.{inl, inr}
+use Rattle.std.proofs.lemmas.Bool.{not-true}
 use Rattle.surface_tree.specs.declared.kind.Kind.{Kind}
 use Rattle.surface_tree.specs.declared.kind.Kind.TheVariants as k
 use Rattle.surface_tree.specs.declared.token.Token.{Token}
@@ -14,7 +15,6 @@ use Rattle.surface_grammar.specs.Forms.{rules_of}
 use Rattle.surface_grammar.specs.Table.{body_of}
 use Rattle.surface_grammar.specs.Trees.{Node, spell, Fits}
 use Rattle.surface_grammar.specs.Words.{accept}
-use Rattle.grammar_engine.proofs.Short.Calm.{not_true}
 use Rattle.grammar_engine.proofs.Trees.Pieces.{Run, nil, cons, Pieces, Step, gather}
 use Rattle.grammar_engine.proofs.Fronts.Scanned.{accepted}
 use Rattle.grammar_engine.proofs.Fronts.Skimmed.{is_after, after_kind, skim_at, skim, past, kind_facts, atom_past, past_kind}
@@ -93,7 +93,7 @@ skip_word w t us rest s b ok h a c = skip_same t.kind s b (skim (us ++ rest)) (a
 
 breaks_after : (ps : List Part) (l : List Token) → Pieces Fronted ps l → breaks ps ≡ true → (rest : List Token) → after_kind (l ++ rest) ≡ false
 breaks_after [] l p h rest = cc
-breaks_after (Word w ∷ ps) l (t, us, is, ok, more) h rest = ap (λ z. after_kind (z ++ rest)) is ∙ accepted is_after w t.kind refl refl refl ok ∙ not_true (is_after w) h
+breaks_after (Word w ∷ ps) l (t, us, is, ok, more) h rest = ap (λ z. after_kind (z ++ rest)) is ∙ accepted is_after w t.kind refl refl refl ok ∙ not-true (is_after w) h
 breaks_after (One g ∷ ps) l p h rest = cc
 breaks_after (Many g ∷ ps) l p h rest = cc
 breaks_after (Maybe g ∷ ps) l p h rest = cc

@@ -2,6 +2,7 @@
 -- where a kind and `)` follow.
 use Rattle.std.proofs.Common.{◌≡◌, ◌==◌, ℕ, List, [], ◌∷◌, ◌++◌, append_assoc, refl, ap, sym, ◌∙◌, subst, Bool, true, false, not, ◌&&◌, ◌||◌, Option, Some}
 use Rattle.std.proofs.Math.Logic.{inl, inr}
+use Rattle.std.proofs.lemmas.Bool.{not-true}
 use Rattle.surface_tree.specs.declared.kind.Kind.{Kind}
 use Rattle.surface_tree.specs.declared.kind.Kind.TheVariants as k
 use Rattle.surface_tree.specs.declared.token.Token.{Token}
@@ -17,7 +18,6 @@ use Rattle.surface_grammar.specs.Fronts.{first_kind}
 use Rattle.surface_grammar.specs.Table.{body_of}
 use Rattle.surface_grammar.specs.Trees.{Node, leaf, branch, several, absent, present, Nodes, none, more, spell, spell_all, front, begins, IsIn, Fits, FitsAll, FitsEach}
 use Rattle.surface_grammar.specs.Words.{kind_code, accept, any_accepts}
-use Rattle.grammar_engine.proofs.Short.Calm.{not_true}
 use Rattle.grammar_engine.proofs.Trees.Leading.{node_led}
 use Rattle.grammar_engine.proofs.Fronts.Scan.{Turn, up, down, flat, turn_of, outside, after_token, scan}
 use Rattle.grammar_engine.proofs.Fronts.Scanned.{accepted}
@@ -188,7 +188,7 @@ outside_stops x false e = refl
 end_turn : (x : Kind) (v : Turn) (a b c : Bool) → ends_turn v (outside x true) ≡ true → after_token 0 v x a b c ≡ false
 end_turn x up a b c e = cc
 end_turn x down a b c e = refl
-end_turn x flat a b c e = outside_stops x c (not_true (outside x true) e)
+end_turn x flat a b c e = outside_stops x c (not-true (outside x true) e)
 
 pub end_scan : (t : Token) (ts : List Token) → ends_at t.kind ≡ true → scan 0 (t ∷ ts) ≡ false
 end_scan t ts e = end_turn t.kind (turn_of t.kind) (scan 1 ts) (scan 0 ts) (scan 0 ts) e
@@ -284,7 +284,7 @@ led_colon n g room name x text fit lacks h =
     let l = node_led n g room name x fit in
     let first : Some l.token.kind ≡ Some k.DoubleColon = sym (ap (λ z. first_kind (z ++ text)) l.is) ∙ h in
     let begun : begins g (Some k.DoubleColon) ≡ true = ap (begins g) (sym first) ∙ l.passes in
-    let bad : begins g (Some k.DoubleColon) ≡ false = not_true (begins g (Some k.DoubleColon)) lacks in
+    let bad : begins g (Some k.DoubleColon) ≡ false = not-true (begins g (Some k.DoubleColon)) lacks in
     let same : true ≡ false = sym begun ∙ bad in cc
 
 colon_each : (ns : Nodes) (g : Form) (room : ℕ) (name : Content) (x : Option Kind) (text : List Token) → FitsEach room name ns g x → not (begins g (Some k.DoubleColon)) ≡ true → (first_kind text ≡ Some k.DoubleColon → MarkedText text) → first_kind (spell_all ns ++ text) ≡ Some k.DoubleColon → MarkedText (spell_all ns ++ text)
@@ -299,7 +299,7 @@ colon_part n (Word w) ps c room name x text fit lacks later h =
     wrong l.token.kind first l.ok
   where
     wrong : {A : Type 0} (y : Kind) → Some y ≡ Some k.DoubleColon → accept w y ≡ true → A
-    wrong y e ok = let same : y ≡ k.DoubleColon = cc in let bad : accept w k.DoubleColon ≡ true = subst (λ z. accept w z ≡ true) same ok in let good : accept w k.DoubleColon ≡ false = not_true (accept w k.DoubleColon) lacks in let clash : true ≡ false = sym bad ∙ good in cc
+    wrong y e ok = let same : y ≡ k.DoubleColon = cc in let bad : accept w k.DoubleColon ≡ true = subst (λ z. accept w z ≡ true) same ok in let good : accept w k.DoubleColon ≡ false = not-true (accept w k.DoubleColon) lacks in let clash : true ≡ false = sym bad ∙ good in cc
 colon_part n (One g) ps c room name x text fit lacks later h = or_split (is_paren_end g) (not (begins g (Some k.DoubleColon))) lacks (λ i. marked_node n g room name x text i fit h) (λ i. led_colon n g room name x text fit i h)
 colon_part (leaf t) (Many g) ps c room name x text fit lacks later h = absurd fit
 colon_part (branch q ns) (Many g) ps c room name x text fit lacks later h = absurd fit

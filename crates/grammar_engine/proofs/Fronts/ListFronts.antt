@@ -1,6 +1,7 @@
 -- An expression that begins with `[` begins with the empty list.
 use Rattle.std.proofs.Common.{◌≡◌, ℕ, List, [], ◌∷◌, ◌++◌, drop, append_assoc, refl, ap, sym, ◌∙◌, subst, Bool, true, false, not, ◌||◌, Option, Some}
 use Rattle.std.proofs.Math.Logic.{inl, inr}
+use Rattle.std.proofs.lemmas.Option.{same_Some}
 use Rattle.surface_tree.specs.declared.kind.Kind.{Kind}
 use Rattle.surface_tree.specs.declared.kind.Kind.TheVariants as k
 use Rattle.surface_tree.specs.declared.token.Token.{Token}
@@ -147,11 +148,8 @@ splices_apart ms ns room space name other x y after behind fit fits is =
 
 second_right : (text : List Token) → lists text ≡ true → first_kind text ≡ Some k.LeftBracket → first_kind (drop 1 text) ≡ Some k.RightBracket
 second_right [] h e = cc
-second_right (t ∷ text) h e = by_rest text (sym (ap (λ z. lists_at z (right_first text)) (some_same t.kind k.LeftBracket e)) ∙ h)
+second_right (t ∷ text) h e = by_rest text (sym (ap (λ z. lists_at z (right_first text)) (same_Some t.kind k.LeftBracket e)) ∙ h)
   where
-    some_same : (x y : Kind) → Some x ≡ Some y → x ≡ y
-    some_same x y i = cc
-
     by_rest : (us : List Token) → right_first us ≡ true → first_kind us ≡ Some k.RightBracket
     by_rest [] i = cc
     by_rest (u ∷ us) i = ap Some (right_is u.kind i)

@@ -1,6 +1,7 @@
 -- What the scan finds in the tokens of a tree.
-use Rattle.std.proofs.Common.{◌≡◌, ◌==◌, ℕ, zero, suc, pred, List, [], ◌∷◌, ◌++◌, append_assoc, refl, ap, sym, ◌∙◌, subst, Bool, true, false, not, ◌&&◌, ◌||◌, Option}
+use Rattle.std.proofs.Common.{◌≡◌, ◌==◌, ℕ, zero, suc, pred, List, [], ◌∷◌, ◌++◌, append_assoc, refl, ap, sym, ◌∙◌, subst, Bool, true, false, not, ◌&&◌, ◌||◌, Option, eqb-true}
 use Rattle.std.proofs.Math.Logic.{◌⊎◌, inl, inr}
+use Rattle.std.proofs.lemmas.Bool.{not-true}
 use Rattle.surface_tree.specs.declared.kind.Kind.{Kind}
 use Rattle.surface_tree.specs.declared.kind.Kind.TheVariants as k
 use Rattle.surface_tree.specs.declared.token.Token.{Token}
@@ -13,7 +14,7 @@ use Rattle.surface_grammar.specs.Forms.{rules_of}
 use Rattle.surface_grammar.specs.Table.{body_of}
 use Rattle.surface_grammar.specs.Trees.{Node, Nodes, spell, spell_all, Fits, FitsAll}
 use Rattle.surface_grammar.specs.Words.{kind_code, accept, is_upper_word}
-use Rattle.grammar_engine.proofs.Short.Calm.{not_true, same_code, eq_true}
+use Rattle.grammar_engine.proofs.Short.Calm.{same_code}
 use Rattle.grammar_engine.proofs.Trees.Pieces.{Run, nil, cons, Pieces, Step, gather, gather_all}
 use Rattle.grammar_engine.proofs.Fronts.Scan.{Turn, up, down, flat, turn_of, outside, after_token, scan, net_of, is_low, is_low_close, is_calm_exp, is_calm_close, by_turn, if_flat, goes_to, from, till, passes, low_word, low_one, low_to, calm_word, calm_to, is_scanned, scanned}
 use Rattle.grammar_engine.proofs.Bools.{and_left, and_right, every_in, unless, or_split}
@@ -53,8 +54,8 @@ upper_word F x a b c h = cc
 -- what a token that is taken for a word has in common with it
 pub accepted : {A : Type 0} (F : Kind → A) (w x : Kind) → F k.TypeWord ≡ F k.UpperName → F k.UnitWord ≡ F k.UpperName → F k.NameWord ≡ F k.UpperName → accept w x ≡ true → F x ≡ F w
 accepted F w x a b c h =
-    or_split (kind_code w == kind_code x) ((kind_code w == kind_code k.UpperName) && is_upper_word x) h (λ e. ap F (sym (same_code w x (eq_true (kind_code w) (kind_code x) e))))
-    (λ e. upper_word F x a b c (and_right (kind_code w == kind_code k.UpperName) (is_upper_word x) e) ∙ ap F (sym (same_code w k.UpperName (eq_true (kind_code w) (kind_code k.UpperName) (and_left (kind_code w == kind_code k.UpperName) (is_upper_word x) e)))))
+    or_split (kind_code w == kind_code x) ((kind_code w == kind_code k.UpperName) && is_upper_word x) h (λ e. ap F (sym (same_code w x (eqb-true (kind_code w) (kind_code x) e))))
+    (λ e. upper_word F x a b c (and_right (kind_code w == kind_code k.UpperName) (is_upper_word x) e) ∙ ap F (sym (same_code w k.UpperName (eqb-true (kind_code w) (kind_code k.UpperName) (and_left (kind_code w == kind_code k.UpperName) (is_upper_word x) e)))))
 
 turn_moves : (v : Turn) (t : Token) → turn_of t.kind ≡ v → Moves v (t ∷ [])
 turn_moves up t e = λ d rest. ap (λ z. after_token (suc d) z t.kind (scan (suc (suc d)) rest) (scan d rest) (scan (suc d) rest)) e
@@ -114,7 +115,7 @@ then_flat down b h = cc
 then_flat flat b h = h
 
 high_pieces : (ps : List Part) (l : List Token) (e n : ℕ) → Pieces Scans ps l → goes_to e ps n ≡ true → (d : ℕ) (rest : List Token) → scan (suc (rise e d)) (l ++ rest) ≡ scan (suc (rise n d)) rest
-high_pieces [] l e n p h d rest = subst (λ z. scan (suc (rise e d)) (z ++ rest) ≡ scan (suc (rise n d)) rest) (sym p) (ap (λ i. scan (suc (rise i d)) rest) (eq_true e n h))
+high_pieces [] l e n p h d rest = subst (λ z. scan (suc (rise e d)) (z ++ rest) ≡ scan (suc (rise n d)) rest) (sym p) (ap (λ i. scan (suc (rise i d)) rest) (eqb-true e n h))
 high_pieces (Word w ∷ ps) l e n (t, us, is, ok, more) h d rest =
     subst (λ z. scan (suc (rise e d)) (z ++ rest) ≡ scan (suc (rise n d)) rest) (sym is)
     (combine e n (turn_of w) (t ∷ []) us (goes_to (suc e) ps n) (goes_to (pred e) ps n) (goes_to e ps n) (turn_moves (turn_of w) t (accepted turn_of w t.kind refl refl refl ok)) h
@@ -132,7 +133,7 @@ high_pieces (Maybe g ∷ ps) l e n (ts, us, is, r, more) h d rest =
 
 passes_all : (x : Kind) (b : Bool) → passes x ≡ true → outside x b ≡ b
 passes_all x true h = and_right (not (outside x false)) (outside x true) h
-passes_all x false h = not_true (outside x false) (and_left (not (outside x false)) (outside x true) h)
+passes_all x false h = not-true (outside x false) (and_left (not (outside x false)) (outside x true) h)
 
 low_token : (a : ℕ) (v : Turn) (p : Bool) (t : Token) (us : List Token) (u w s : Bool) → turn_of t.kind ≡ v → passes t.kind ≡ p → low_word a v p u w s ≡ true
     → (u ≡ true → Passed (suc a) us) → (w ≡ true → Passed (pred a) us) → (s ≡ true → Passed a us) → Passed a (t ∷ us)

@@ -1,5 +1,5 @@
 -- No constructor begins with a kind that ends in brackets.
-use Rattle.std.proofs.Common.{◌≡◌, ◌==◌, ℕ, zero, suc, pred, List, [], ◌∷◌, ◌++◌, append_assoc, refl, ap, sym, ◌∙◌, subst, Bool, true, false, ◌&&◌, ◌||◌, Option}
+use Rattle.std.proofs.Common.{◌≡◌, ◌==◌, ℕ, zero, suc, pred, List, [], ◌∷◌, ◌++◌, append_assoc, refl, ap, sym, ◌∙◌, subst, Bool, true, false, ◌&&◌, Option, eqb-true}
 use Rattle.std.proofs.Math.Logic.{◌⊎◌, inl, inr}
 use Rattle.surface_tree.specs.declared.kind.Kind.{Kind}
 use Rattle.surface_tree.specs.declared.kind.Kind.TheVariants as k
@@ -13,7 +13,7 @@ use Rattle.surface_grammar.specs.Forms.{rules_of}
 use Rattle.surface_grammar.specs.Table.{body_of}
 use Rattle.surface_grammar.specs.Trees.{Node, spell, IsIn, Fits}
 use Rattle.surface_grammar.specs.Words.{kind_code, accept, is_upper_word}
-use Rattle.grammar_engine.proofs.Short.Calm.{same_code, eq_true}
+use Rattle.grammar_engine.proofs.Short.Calm.{same_code}
 use Rattle.grammar_engine.proofs.Trees.Pieces.{Run, nil, cons, Pieces, Step, gather}
 use Rattle.grammar_engine.proofs.Fronts.Scan.{Turn, up, down, flat, turn_of}
 use Rattle.grammar_engine.proofs.Bools.{or_split}
@@ -75,7 +75,7 @@ no_way false b e h = cc
 
 -- a word that isn't an upper name stands for itself
 pub exact : (w x : Kind) → (kind_code w == kind_code k.UpperName) ≡ false → accept w x ≡ true → x ≡ w
-exact w x e h = or_split (kind_code w == kind_code x) ((kind_code w == kind_code k.UpperName) && is_upper_word x) h (λ i. sym (same_code w x (eq_true (kind_code w) (kind_code x) i))) (λ i. no_way (kind_code w == kind_code k.UpperName) (is_upper_word x) e i)
+exact w x e h = or_split (kind_code w == kind_code x) ((kind_code w == kind_code k.UpperName) && is_upper_word x) h (λ i. sym (same_code w x (eqb-true (kind_code w) (kind_code x) i))) (λ i. no_way (kind_code w == kind_code k.UpperName) (is_upper_word x) e i)
 
 skim_kind : (t : Token) (x : Kind) (ts : List Token) → t.kind ≡ x → skim (t ∷ ts) ≡ skim_at x (skim ts) (after_kind ts)
 skim_kind t x ts e = ap (λ z. skim_at z (skim ts) (after_kind ts)) e

@@ -2,6 +2,8 @@
 use Rattle.std.proofs.Common.{◌≡◌, ◌<◌, ◌≤◌, ◌+◌, ℕ, zero, suc, max, List, [], ◌∷◌, ◌++◌, length, drop, append_assoc, refl, ap, sym, ◌∙◌, subst, arith, Bool, true, false, not, ◌&&◌, nat_le, Option, Some, None}
 use Rattle.std.proofs.lemmas.List.{drop_all}
 use Rattle.std.proofs.Math.Logic.{◌⊎◌, inl, inr}
+use Rattle.std.proofs.lemmas.Bool.{not-true}
+use Rattle.std.proofs.lemmas.Option.{same_Some}
 use Rattle.surface_tree.specs.declared.kind.Kind.{Kind}
 use Rattle.surface_tree.specs.declared.kind.Kind.TheVariants as k
 use Rattle.surface_tree.specs.declared.token.Token.{Token}
@@ -22,7 +24,7 @@ use Rattle.grammar_engine.specs.declared.want.Want.{Want}
 use Rattle.grammar_engine.specs.Allowed.{may_stand_behind, Begins, AllowedAt, MarksKind}
 use Rattle.grammar_engine.specs.Places.{name_at}
 use Rattle.grammar_engine.specs.Solid.{solid_or, first_solid}
-use Rattle.grammar_engine.proofs.Short.Calm.{nexts, follows, behind, calm, shortest, fill_wants, parts_of, Roomy, TailRoomy, not_true, calm_some}
+use Rattle.grammar_engine.proofs.Short.Calm.{nexts, follows, behind, calm, shortest, fill_wants, parts_of, Roomy, TailRoomy, calm_some}
 use Rattle.grammar_engine.proofs.Short.Filling.{rule_calm, short, short_leads, short_fits, front_wants, filled, follows_one}
 use Rattle.grammar_engine.proofs.Keeping.Grown.{Filled, Grows, front_append}
 use Rattle.grammar_engine.proofs.Table.Levels.{rename}
@@ -128,9 +130,6 @@ record Marked (items : List Token) (ns : Nodes) (ts : List Token) (ws : List Wan
   pub rest : List Token
   pub spelled : spell_all ns ≡ ts ++ rest
 
-some_same : (v w : Want) → Some v ≡ Some w → v ≡ w
-some_same v w e = cc
-
 one_same : (g h : Form) → One g ≡ One h → g ≡ h
 one_same g h e = cc
 
@@ -139,9 +138,9 @@ is_one u g e = cc
 
 solid_next_at : (P : Option Kind → Bool) (wanted : Want) (p : Part) (space tag : ℕ) (ws : List Want) (ys : List (Option Kind)) → solid_or p (record { part = p; room = space; tag = tag }) (first_solid ws) ≡ Some wanted → wanted.part ≡ One f.ConParenEnd
     → (first_solid ws ≡ Some wanted → every P (nexts (parts_of ws) ys) ≡ true → P (Some k.DoubleColon) ≡ true) → every P (nexts (p ∷ parts_of ws) ys) ≡ true → P (Some k.DoubleColon) ≡ true
-solid_next_at P wanted (Word u) space tag ws ys e is later a = is_one u f.ConParenEnd (ap (λ w. w.part) (some_same (record { part = Word u; room = space; tag = tag }) wanted e) ∙ is)
+solid_next_at P wanted (Word u) space tag ws ys e is later a = is_one u f.ConParenEnd (ap (λ w. w.part) (same_Some (record { part = Word u; room = space; tag = tag }) wanted e) ∙ is)
 solid_next_at P wanted (One g) space tag ws ys e is later a =
-    let same : g ≡ f.ConParenEnd = one_same g f.ConParenEnd (ap (λ w. w.part) (some_same (record { part = One g; room = space; tag = tag }) wanted e) ∙ is) in
+    let same : g ≡ f.ConParenEnd = one_same g f.ConParenEnd (ap (λ w. w.part) (same_Some (record { part = One g; room = space; tag = tag }) wanted e) ∙ is) in
     let b : every P (nexts (One f.ConParenEnd ∷ parts_of ws) ys) ≡ true = subst (λ z. every P (nexts (One z ∷ parts_of ws) ys) ≡ true) same a in
     and_left (P (Some k.DoubleColon)) true (and_right (P (Some k.RightParenthesis)) _ b)
 solid_next_at P wanted (Many g) space tag ws ys e is later a = later e a
@@ -155,15 +154,15 @@ skips : (items : List Token) (g : Form) (wanted : Want) (ws : List Want) (x : Op
     → every (λ y. follows g y && not (must_go_on g y)) (nexts (parts_of ws) (x ∷ [])) ≡ true → front (spell_all ns) x ≡ Some k.DoubleColon → must_go_on g (front (spell_all ns) x) ≡ false
 skips items g wanted ws x ns e is a lead =
     subst (λ y. must_go_on g y ≡ false) (sym lead)
-    (not_true (must_go_on g (Some k.DoubleColon)) (and_right (follows g (Some k.DoubleColon)) _ (solid_next (λ y. follows g y && not (must_go_on g y)) wanted ws (x ∷ []) e is a)))
+    (not-true (must_go_on g (Some k.DoubleColon)) (and_right (follows g (Some k.DoubleColon)) _ (solid_next (λ y. follows g y && not (must_go_on g y)) wanted ws (x ∷ []) e is a)))
 
 marked_at : (items : List Token) (mark : Node) (wanted : Want) (p : Part) (space tag : ℕ) (ws : List Want) (x : Option Kind) → solid_or p (record { part = p; room = space; tag = tag }) (first_solid ws) ≡ Some wanted → wanted.part ≡ One f.ConParenEnd
     → ((y : Option Kind) → Fits wanted.room (name_at items wanted.tag) mark (One f.ConParenEnd) y) → ((y : Option Kind) → front (spell mark) y ≡ Some k.DoubleColon)
     → (first_solid ws ≡ Some wanted → Marked items (fill_mark items mark ws) (spell mark) ws x) → every (behind p) (nexts (parts_of ws) (x ∷ [])) ≡ true → calm (parts_of ws) (x ∷ []) ≡ true → Roomy ws
     → Marked items (mark_part mark p (fill_wants items ws) (fill_mark items mark ws)) (spell mark) (record { part = p; room = space; tag = tag } ∷ ws) x
-marked_at items mark wanted (Word u) space tag ws x e is fits lead later b c roomy = is_one u f.ConParenEnd (ap (λ w. w.part) (some_same (record { part = Word u; room = space; tag = tag }) wanted e) ∙ is)
+marked_at items mark wanted (Word u) space tag ws x e is fits lead later b c roomy = is_one u f.ConParenEnd (ap (λ w. w.part) (same_Some (record { part = Word u; room = space; tag = tag }) wanted e) ∙ is)
 marked_at items mark wanted (One g) space tag ws x e is fits lead later b c roomy =
-    let same = some_same (record { part = One g; room = space; tag = tag }) wanted e in
+    let same = same_Some (record { part = One g; room = space; tag = tag }) wanted e in
     let y = front (spell_all (fill_wants items ws)) x in
     let here : Fits wanted.room (name_at items wanted.tag) mark wanted.part y = subst (λ z. Fits wanted.room (name_at items wanted.tag) mark z y) (sym is) (fits y) in
     record {

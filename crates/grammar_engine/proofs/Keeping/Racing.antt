@@ -2,6 +2,7 @@
 use Rattle.std.proofs.Common.{◌≡◌, ◌<◌, ◌≤◌, ◌+◌, ◌-◌, ◌*◌, ℕ, suc, List, [], ◌∷◌, ◌++◌, length, take, drop, append_assoc, refl, ap, sym, ◌∙◌, subst, arith, true, false, Some}
 use Rattle.std.proofs.lemmas.List.{length-drop, drop-drop}
 use Rattle.std.proofs.Math.Logic.{◌⊎◌, inl, inr}
+use Rattle.std.proofs.lemmas.Option.{same_Some}
 use Rattle.surface_tree.specs.declared.kind.Kind.{Kind}
 use Rattle.surface_tree.specs.declared.kind.Kind.TheVariants as k
 use Rattle.surface_tree.specs.declared.token.Token.{Token}
@@ -44,10 +45,7 @@ record Front (ts : List Token) (y : Kind) : Type 0 where
 
 front_at : (ts : List Token) (y : Kind) → first_kind ts ≡ Some y → Front ts y
 front_at [] y e = cc
-front_at (t ∷ ts) y e = record { token = t; rest = ts; is = refl; kind = some_same t.kind y e }
-  where
-    some_same : (x z : Kind) → Some x ≡ Some z → x ≡ z
-    some_same x z i = cc
+front_at (t ∷ ts) y e = record { token = t; rest = ts; is = refl; kind = same_Some t.kind y e }
 
 -- a pattern and `<-` stand here: no plain expression has them
 bind_open : (items : List Token) (os : Nodes) (at far place inner : ℕ) (own : Content) (text : List Token) → WayOpen items f.Pat k.LeftArrow at far → FitsAll inner own os (One f.Term ∷ Maybe f.ExpThen ∷ []) (first_kind text)

@@ -1,6 +1,7 @@
 -- A step of reading keeps that what was read begins a tree, and a refusal stands where it ends.
 use Rattle.std.proofs.Common.{◌≡◌, ◌<◌, ◌≤◌, ◌+◌, ◌-◌, ℕ, max, List, [], ◌∷◌, ◌++◌, length, drop, refl, ap, sym, subst, arith, Bool, true, false, not, ◌&&◌, Option, Some, None}
 use Rattle.std.proofs.Math.Logic.{inl, inr}
+use Rattle.std.proofs.lemmas.Bool.{and_from}
 use Rattle.surface_tree.specs.declared.kind.Kind.{Kind}
 use Rattle.surface_tree.specs.declared.kind.Kind.TheVariants as k
 use Rattle.surface_tree.specs.declared.token.Token.{Token}
@@ -21,7 +22,7 @@ use Rattle.grammar_engine.specs.Moves.{wants_of, goes_by, MeetsPart, Begun}
 use Rattle.grammar_engine.specs.Rooms.{least_of}
 use Rattle.grammar_engine.specs.Stuck.{MeetsBlocked, StopsStuck}
 use Rattle.grammar_engine.proofs.Keeping.Allowing.{Ready, at_max, inside, grown_begins, begins_at, bind_allowed, kind_allowed}
-use Rattle.grammar_engine.proofs.Short.Calm.{nexts, follows, behind, calm, fits_room, rooms, tail_rooms, fill_wants, parts_of, Roomy, TailRoomy, and_both, calm_some, calm_append}
+use Rattle.grammar_engine.proofs.Short.Calm.{nexts, follows, behind, calm, fits_room, rooms, tail_rooms, fill_wants, parts_of, Roomy, TailRoomy, calm_some, calm_append}
 use Rattle.grammar_engine.proofs.Short.Filling.{rule_calm, rule_rooms, filled, tail_more_room}
 use Rattle.grammar_engine.proofs.Keeping.Grown.{Grows}
 use Rattle.grammar_engine.proofs.Keeping.Splicing.{splice_allowed}
@@ -83,17 +84,17 @@ calm_rule q g ps ys i c =
 
 every_first : (P Q : Option Kind → Bool) (ys : List (Option Kind)) → every (λ y. P y && Q y) ys ≡ true → every P ys ≡ true
 every_first P Q [] h = refl
-every_first P Q (y ∷ ys) h = and_both (P y) (every P ys) (and_left (P y) (Q y) (and_left (P y && Q y) (every (λ z. P z && Q z) ys) h)) (every_first P Q ys (and_right (P y && Q y) (every (λ z. P z && Q z) ys) h))
+every_first P Q (y ∷ ys) h = and_from (P y) (every P ys) (and_left (P y) (Q y) (and_left (P y && Q y) (every (λ z. P z && Q z) ys) h)) (every_first P Q ys (and_right (P y && Q y) (every (λ z. P z && Q z) ys) h))
 
 -- the next tree of a repetition or an option is calm where those are
 calm_item : (g : Form) (ps : List Part) (ys : List (Option Kind)) → every (λ y. follows g y && not (must_go_on g y)) (nexts ps ys) && calm ps ys ≡ true → calm (One g ∷ ps) ys ≡ true
 calm_item g ps ys c =
-    and_both (every (follows g) (nexts ps ys)) (calm ps ys) (every_first (follows g) (λ y. not (must_go_on g y)) (nexts ps ys) (and_left (every (λ y. follows g y && not (must_go_on g y)) (nexts ps ys)) (calm ps ys) c))
+    and_from (every (follows g) (nexts ps ys)) (calm ps ys) (every_first (follows g) (λ y. not (must_go_on g y)) (nexts ps ys) (and_left (every (λ y. follows g y && not (must_go_on g y)) (nexts ps ys)) (calm ps ys) c))
     (and_right (every (λ y. follows g y && not (must_go_on g y)) (nexts ps ys)) (calm ps ys) c)
 
 calm_many : (g : Form) (ps : List Part) (ys : List (Option Kind)) → calm (Many g ∷ ps) ys ≡ true → calm (One g ∷ Many g ∷ ps) ys ≡ true
 calm_many g ps ys c =
-    and_both (every (follows g) (nexts ps ys)) (calm (Many g ∷ ps) ys) (every_first (follows g) (λ y. not (must_go_on g y)) (nexts ps ys) (and_left (every (λ y. follows g y && not (must_go_on g y)) (nexts ps ys)) (calm ps ys) c)) c
+    and_from (every (follows g) (nexts ps ys)) (calm (Many g ∷ ps) ys) (every_first (follows g) (λ y. not (must_go_on g y)) (nexts ps ys) (and_left (every (λ y. follows g y && not (must_go_on g y)) (nexts ps ys)) (calm ps ys) c)) c
 
 -- the same at equal parts of a state
 ready_at : (items : List Token) (p : Part) (at room here here' far : ℕ) (ws ws' : List Want) → here' ≡ here → ws' ≡ ws → Ready items p at room here far ws → Ready items p at room here' far ws'
@@ -163,7 +164,7 @@ pub begun_ready : (items : List Token) (p : Part) (at room : ℕ) (a : Machine) 
 begun_ready items p at room a b =
     subst (λ l. Ready items p at room a.at a.far l) (sym b.wants)
     (record {
-      quiet = λ x ok. and_both (every (behind p) (x ∷ [])) true (and_both (behind p x) true (first_quiet p x ok) refl) refl;
+      quiet = λ x ok. and_from (every (behind p) (x ∷ [])) true (and_from (behind p x) true (first_quiet p x ok) refl) refl;
       roomy = tt;
       come = subst (AllowedAt items p at room) (sym b.place) (begins_at items p at room);
       farther = subst (AllowedAt items p at room) (sym b.far) (begins_at items p at room);

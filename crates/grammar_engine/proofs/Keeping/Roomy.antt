@@ -1,6 +1,7 @@
 -- Room enough, as long as something is to be read.
 use Rattle.std.proofs.Common.{◌≡◌, ◌<◌, ◌≤◌, ◌+◌, ◌-◌, ◌*◌, ℕ, suc, List, [], ◌∷◌, ◌++◌, length, drop, refl, sym, subst, arith, Bool, true, false, if◌then◌else◌, Option, Some}
 use Rattle.std.proofs.Math.Logic.{◌⊎◌, inl, inr}
+use Rattle.std.proofs.lemmas.Option.{same_Some}
 use Rattle.surface_tree.specs.declared.token.Token.{Token}
 use Rattle.surface_grammar.specs.declared.form.Form.{Form}
 use Rattle.surface_grammar.specs.declared.part.Part.{Part}
@@ -96,14 +97,8 @@ room_counts extra races items here w ws (inl e) l = inl e
 room_counts extra races items here w ws (inr h) l = inr (ample_at (400 * races + left_over (drop here items) (w ∷ ws) + 2) races (length (drop here items)) _ w.room l refl h.0)
 
 solid_at : (least : ℕ) (wanted : Want) (p : Part) (w : Want) (later : Option Want) → solid_or p w later ≡ Some wanted → least ≤ w.room → (later ≡ Some wanted → least ≤ wanted.room) → least ≤ wanted.room
-solid_at least wanted (Word u) w later e h next = subst (λ z. least ≤ z.room) (some_same w wanted e) h
-  where
-    some_same : (x y : Want) → Some x ≡ Some y → x ≡ y
-    some_same x y i = cc
-solid_at least wanted (One g) w later e h next = subst (λ z. least ≤ z.room) (some_same w wanted e) h
-  where
-    some_same : (x y : Want) → Some x ≡ Some y → x ≡ y
-    some_same x y i = cc
+solid_at least wanted (Word u) w later e h next = subst (λ z. least ≤ z.room) (same_Some w wanted e) h
+solid_at least wanted (One g) w later e h next = subst (λ z. least ≤ z.room) (same_Some w wanted e) h
 solid_at least wanted (Many g) w later e h next = next e
 solid_at least wanted (Maybe g) w later e h next = next e
 

@@ -1,6 +1,7 @@
 -- The steps of reading pass on each tree that has the tokens read.
 use Rattle.std.proofs.Common.{◌≡◌, ◌<◌, ◌≤◌, ◌+◌, ℕ, List, [], ◌∷◌, ◌++◌, take, drop, append_assoc, refl, ap, sym, ◌∙◌, subst, arith, Bool, true, false, not, ◌&&◌, if◌then◌else◌, Option, Some, None}
 use Rattle.std.proofs.Math.Logic.{◌⊎◌, inl, inr}
+use Rattle.std.proofs.lemmas.Bool.{cases_Bool}
 use Rattle.surface_tree.specs.declared.kind.Kind.{Kind}
 use Rattle.surface_tree.specs.declared.token.Token.{Token}
 use Rattle.surface_tree.specs.declared.token.Content.{Content}
@@ -35,7 +36,7 @@ use Rattle.grammar_engine.proofs.Table.Least.{least_low, least_needed}
 use Rattle.grammar_engine.proofs.Keeping.Passed.{want, Stepped, StepWord, StepRule, StepMany, StepMaybe, BlockedNone}
 use Rattle.grammar_engine.proofs.Keeping.Readies.{parts_append}
 use Rattle.grammar_engine.proofs.Trees.Unique.{front_kind, begun_kind}
-use Rattle.grammar_engine.proofs.Bools.{less, clash, by_cases}
+use Rattle.grammar_engine.proofs.Bools.{clash}
 
 -- the word
 word_same : (t u : Token) (a b : List Token) → take 1 (u ∷ a) ≡ take 1 (t ∷ b) → u ≡ t
@@ -112,7 +113,7 @@ rule_stepped items extra g room tag at inner own q ws ns others tail b begun f e
     subst (λ i. FitsAll i f.0.1 ns (body_of q) (front (spell_all others) (first_kind tail))) (same_room inner f.0.0 (depth_of q) room extra b.room_left f.0.2.room_left) f.0.3 in
     let name : f.0.1 ≡ name_at items own =
     own_same items q ns f.0.0 tag at own f.0.1 (front (spell_all others) (first_kind tail)) (spell_all others ++ tail) b.named begun f.0.2.named f.0.3
-    (subst (λ l. take 1 l ≡ take 1 (drop at items)) (append_assoc (spell_all ns) (spell_all others) tail) e) (by_cases (is_element q)) in
+    (subst (λ l. take 1 l ≡ take 1 (drop at items)) (append_assoc (spell_all ns) (spell_all others) tail) e) (cases_Bool (is_element q)) in
     record {
       rest = joined ns others;
       filled = filled_join items extra inner own f.0.1 (body_of q) ws ns others (first_kind tail) name fits f.1;

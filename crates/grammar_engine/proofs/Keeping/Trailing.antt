@@ -1,6 +1,8 @@
 -- What stands behind a part that is to be read: of the parts behind it alone is told what may begin there.
 use Rattle.std.proofs.Common.{◌≡◌, ◌+◌, ℕ, List, [], ◌∷◌, ◌++◌, append_assoc, refl, ap, sym, ◌∙◌, subst, arith, Bool, true, false, not, ◌&&◌, ◌||◌, Option, Some, None}
 use Rattle.std.proofs.Math.Logic.{inl, inr}
+use Rattle.std.proofs.lemmas.Bool.{and_from, not-true}
+use Rattle.std.proofs.lemmas.Option.{same_Some}
 use Rattle.surface_tree.specs.declared.kind.Kind.{Kind}
 use Rattle.surface_tree.specs.declared.kind.Kind.TheVariants as k
 use Rattle.surface_tree.specs.declared.token.Token.{Token}
@@ -15,7 +17,7 @@ use Rattle.surface_grammar.specs.Forms.{rules_of}
 use Rattle.surface_grammar.specs.Fronts.{first_kind}
 use Rattle.surface_grammar.specs.Table.{body_of}
 use Rattle.surface_grammar.specs.Trees.{Node, leaf, branch, several, absent, present, Nodes, none, more, spell, spell_all, front, begins, depth_of, IsIn, Fits, FitsAll}
-use Rattle.surface_grammar.specs.Words.{kind_code, accept}
+use Rattle.surface_grammar.specs.Words.{accept}
 use Rattle.grammar_engine.specs.declared.want.Want.{Want}
 use Rattle.grammar_engine.specs.declared.machine.Machine.{Machine}
 use Rattle.grammar_engine.specs.Allowed.{may_stand_behind}
@@ -24,7 +26,7 @@ use Rattle.grammar_engine.specs.Passing.{FilledBy}
 use Rattle.grammar_engine.specs.Places.{name_at}
 use Rattle.grammar_engine.specs.Single.{is_text_part}
 use Rattle.grammar_engine.specs.Solid.{first_solid}
-use Rattle.grammar_engine.proofs.Short.Calm.{and_both, not_true, parts_of}
+use Rattle.grammar_engine.proofs.Short.Calm.{parts_of}
 use Rattle.grammar_engine.proofs.Fronts.Context.{is_exp_tail, is_con_tail, is_paren_end, ends_at, ends_next, colon_next, part_ok, tidy, rule_tidy, Ends, headed, leafed, last_none, next_part, led_colon}
 use Rattle.grammar_engine.proofs.Table.Levels.{rename}
 use Rattle.grammar_engine.proofs.Keeping.Passed.{want, MarkStands}
@@ -50,11 +52,8 @@ pub record Starts (p : Part) (tail : List Token) : Type 0 where
   pub trails : tidy e true (p ∷ []) ≡ true
   pub closes : Closes e tail
 
-not_colons : (x y : Kind) → Some x ≡ Some y → kind_code x ≡ kind_code y
-not_colons x y e = cc
-
 start_with : (p : Part) (tail : List Token) (x : Option Kind) → first_kind tail ≡ x → is_text_part p ≡ true → may_stand_behind p x ≡ true → Starts p tail
-start_with p [] None is h ok = record { e = true; trails = and_both (part_ok true true p []) true (part_whole p h) refl; closes = record { ends = λ i. refl; plain = λ i. cc } }
+start_with p [] None is h ok = record { e = true; trails = and_from (part_ok true true p []) true (part_whole p h) refl; closes = record { ends = λ i. refl; plain = λ i. cc } }
 start_with p (t ∷ tail) None is h ok = cc
 start_with p [] (Some x) is h ok = cc
 start_with (One f.Pat) (t ∷ tail) (Some k.LeftArrow) is h ok = record { e = false; trails = refl; closes = record { ends = λ i. cc; plain = λ i. let bad : Some k.LeftArrow ≡ Some k.DoubleColon = sym is ∙ i in cc } }
@@ -109,7 +108,7 @@ colon_behind : (a c : Bool) (ps qs : List Part) → (a ≡ true → colon_next c
 colon_behind a c ps qs m h = colon_append c ps qs ∙ colon_more a (colon_next c qs) ps m h
 
 both_more : (a b c a' b' c' : Bool) → (b ≡ true → b' ≡ true) → (c ≡ true → c' ≡ true) → ((a || b) && (a' || c)) ≡ true → ((a || b') && (a' || c')) ≡ true
-both_more a b c a' b' c' m n h = and_both (a || b') (a' || c') (or_more a b b' m (and_left (a || b) (a' || c) h)) (or_more a' c c' n (and_right (a || b) (a' || c) h))
+both_more a b c a' b' c' m n h = and_from (a || b') (a' || c') (or_more a b b' m (and_left (a || b) (a' || c) h)) (or_more a' c c' n (and_right (a || b) (a' || c) h))
 
 part_behind : (a b e c : Bool) (p : Part) (ps qs : List Part) → (a ≡ true → ends_next e qs ≡ true) → (b ≡ true → colon_next c qs ≡ true) → part_ok a b p ps ≡ true → part_ok e c p (ps ++ qs) ≡ true
 part_behind a b e c (Word w) ps qs m n h = refl
@@ -124,7 +123,7 @@ part_behind a b e c (Maybe g) ps qs m n h =
 tidy_behind : (a b e c : Bool) (ps qs : List Part) → (a ≡ true → ends_next e qs ≡ true) → (b ≡ true → colon_next c qs ≡ true) → tidy a b ps ≡ true → tidy e c qs ≡ true → tidy e c (ps ++ qs) ≡ true
 tidy_behind a b e c [] qs m n h k = k
 tidy_behind a b e c (p ∷ ps) qs m n h k =
-    and_both (part_ok e c p (ps ++ qs)) (tidy e c (ps ++ qs)) (part_behind a b e c p ps qs m n (and_left (part_ok a b p ps) (tidy a b ps) h)) (tidy_behind a b e c ps qs m n (and_right (part_ok a b p ps) (tidy a b ps) h) k)
+    and_from (part_ok e c p (ps ++ qs)) (tidy e c (ps ++ qs)) (part_behind a b e c p ps qs m n (and_left (part_ok a b p ps) (tidy a b ps) h)) (tidy_behind a b e c ps qs m n (and_right (part_ok a b p ps) (tidy a b ps) h) k)
 
 -- the parts of a rule in place of its form
 rule_trails : (e : Bool) (g : Form) (q : Rule) (ps : List Part) → IsIn q (rules_of g) → tidy e true (One g ∷ ps) ≡ true → tidy e true (body_of q ++ ps) ≡ true
@@ -144,11 +143,11 @@ trails_meets e items (One g) room tag a c s h =
     subst (Trails e) (sym s.wants) (subst (λ l. tidy e true l ≡ true) (sym (parts_append s.inner s.own (body_of s.rule) a.wants)) (rule_trails e g s.rule (parts_of a.wants) s.built.rule h))
 trails_meets e items (Many g) room tag a c s h =
     let ok = and_left (part_ok e true (Many g) (parts_of a.wants)) (tidy e true (parts_of a.wants)) h in
-    trails_goes s.taken e g room tag (want (Many g) room tag ∷ []) a c s.by (and_both (part_ok e true (One g) (Many g ∷ parts_of a.wants)) (tidy e true (Many g ∷ parts_of a.wants)) ok h) (and_right (part_ok e true (Many g) (parts_of a.wants)) (tidy e true (parts_of a.wants)) h)
+    trails_goes s.taken e g room tag (want (Many g) room tag ∷ []) a c s.by (and_from (part_ok e true (One g) (Many g ∷ parts_of a.wants)) (tidy e true (Many g ∷ parts_of a.wants)) ok h) (and_right (part_ok e true (Many g) (parts_of a.wants)) (tidy e true (parts_of a.wants)) h)
 trails_meets e items (Maybe g) room tag a c s h =
     let ok = and_left (part_ok e true (Maybe g) (parts_of a.wants)) (tidy e true (parts_of a.wants)) h in
     let rest = and_right (part_ok e true (Maybe g) (parts_of a.wants)) (tidy e true (parts_of a.wants)) h in
-    trails_goes s.taken e g room tag [] a c s.by (and_both (part_ok e true (One g) (parts_of a.wants)) (tidy e true (parts_of a.wants)) ok rest) rest
+    trails_goes s.taken e g room tag [] a c s.by (and_from (part_ok e true (One g) (parts_of a.wants)) (tidy e true (parts_of a.wants)) ok rest) rest
 
 -- no repetition of the open option is tidy
 forall_untidy : (e : Bool) (ps : List Part) → tidy e true (Many f.ConForall ∷ ps) ≡ true → ⊥
@@ -186,13 +185,10 @@ record Standing (room : ℕ) (name : Content) (text : List Token) : Type 0 where
 
 not_word : {A : Type 0} (w : Kind) (t : Token) (ts : List Token) → accept w k.DoubleColon ≡ false → accept w t.kind ≡ true → first_kind (t ∷ ts) ≡ Some k.DoubleColon → A
 not_word w t ts lacks ok e =
-    let same : t.kind ≡ k.DoubleColon = some_same t.kind k.DoubleColon e in
+    let same : t.kind ≡ k.DoubleColon = same_Some t.kind k.DoubleColon e in
     let bad : accept w k.DoubleColon ≡ true = subst (λ z. accept w z ≡ true) same ok in
     let wrong : true ≡ false = sym bad ∙ lacks in
     cc
-  where
-    some_same : (x y : Kind) → Some x ≡ Some y → x ≡ y
-    some_same x y e = cc
 
 stands_rule : (q : Rule) (ns : Nodes) (room : ℕ) (name : Content) (x : Option Kind) (text : List Token) → IsIn q (rules_of f.ConParenEnd) → FitsAll room name ns (body_of q) x → first_kind (spell_all ns ++ text) ≡ Some k.DoubleColon
     → Standing room name (spell_all ns ++ text)
@@ -253,7 +249,7 @@ stands_part : (items : List Token) (extra : ℕ) (p : Part) (room tag : ℕ) (ws
     → (colon_next true (parts_of ws) ≡ true → first_kind text ≡ Some k.DoubleColon → MarkStands items ws extra text) → first_kind (spell n ++ text) ≡ Some k.DoubleColon → MarkStands items (want p room tag ∷ ws) extra (spell n ++ text)
 stands_part items extra (Word w) room tag ws n x text fit lacks later h =
     let l = leafed (room + extra) (name_at items tag) n w x fit in
-    not_word w l.token text (not_true (accept w k.DoubleColon) lacks) l.ok (ap first_kind (sym (ap (λ z. z ++ text) l.spelled)) ∙ h)
+    not_word w l.token text (not-true (accept w k.DoubleColon) lacks) l.ok (ap first_kind (sym (ap (λ z. z ++ text) l.spelled)) ∙ h)
 stands_part items extra (One g) room tag ws n x text fit lacks later h =
     or_split (is_paren_end g) (not (begins g (Some k.DoubleColon))) lacks (λ i. let s = stands_node n g (room + extra) (name_at items tag) x text i fit h in stands_here items extra g room tag ws (spell n ++ text) s.0 s.1)
     (λ i. led_colon n g (room + extra) (name_at items tag) x text fit i h)

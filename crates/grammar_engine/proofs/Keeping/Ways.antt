@@ -1,6 +1,8 @@
 -- A way of reading beside is shut where no tree of its form, with the token behind it, has the tokens looked at.
 use Rattle.std.proofs.Common.{◌≡◌, ◌<◌, ◌≤◌, ◌+◌, ◌-◌, ℕ, suc, max, List, ◌++◌, drop, refl, ap, sym, ◌∙◌, subst, arith, true, false, Option, Some}
 use Rattle.std.proofs.Math.Logic.{◌⊎◌, inl, inr}
+use Rattle.std.proofs.lemmas.Bool.{cases_Bool}
+use Rattle.std.proofs.lemmas.Option.{same_Some}
 use Rattle.surface_tree.specs.declared.kind.Kind.{Kind}
 use Rattle.surface_tree.specs.declared.token.Token.{Token}
 use Rattle.surface_grammar.specs.declared.form.Form.{Form}
@@ -21,7 +23,6 @@ use Rattle.grammar_engine.specs.Stuck.{MeetsBlocked}
 use Rattle.grammar_engine.proofs.Keeping.Agreeing.{agrees_next}
 use Rattle.grammar_engine.proofs.Keeping.Going.{through_less}
 use Rattle.grammar_engine.proofs.Keeping.Steps.{blocked_none}
-use Rattle.grammar_engine.proofs.Bools.{by_cases}
 
 room_for_two : (items : List Token) (at room races extra : ℕ) → Counts items at room races extra → (extra ≡ 0) ⊎ (2 ≤ room)
 room_for_two items at room races extra (inl e) = inl e
@@ -46,7 +47,7 @@ shut_refused items g y at room races tried far place is low stops l t e = stops 
 pub cramped_blocked : (items : List Token) (g : Form) (q : Rule) (room tag at : ℕ) (stop : Stop) → Chosen g (first_kind (drop at items)) q → (is_raced_form g ≡ false → StartedBy (first_kind (drop at items)) q) → (is_raced_form g ≡ true → least_of q ≤ room)
     → Cramped q room stop → MeetsBlocked items (One g) room tag at stop
 cramped_blocked items g q room tag at Memory chosen begun roomy h = tt
-cramped_blocked items g q room tag at (Refused place) chosen begun roomy h = by_form (by_cases (is_raced_form g))
+cramped_blocked items g q room tag at (Refused place) chosen begun roomy h = by_form (cases_Bool (is_raced_form g))
   where
     by_form : (is_raced_form g ≡ true) ⊎ (is_raced_form g ≡ false) → MeetsBlocked items (One g) room tag at (Refused place)
     by_form (inl raced) = absurd (omega (arith, h, roomy raced))
@@ -57,10 +58,7 @@ pub shut_moved : (items : List Token) (g : Form) (y : Kind) (at at' room room' r
 shut_moved items g y at at' room room' races far e e' h = subst (λ i. WayShut items g y i room' races far) e (subst (λ i. WayShut items g y at i races far) e' h)
 
 pub room_same : (v w : Want) (found : Option Want) (room : ℕ) → found ≡ Some v → found ≡ Some w → v.room ≡ room → room ≡ w.room
-room_same v w found room e e' h = sym h ∙ ap (λ z. z.room) (same v w (sym e ∙ e'))
-  where
-    same : (v w : Want) → Some v ≡ Some w → v ≡ w
-    same v w i = cc
+room_same v w found room e e' h = sym h ∙ ap (λ z. z.room) (same_Some v w (sym e ∙ e'))
 
 pub next_place : (at : ℕ) → at + 1 ≡ suc at
 next_place at = omega arith

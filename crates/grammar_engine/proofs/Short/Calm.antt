@@ -1,5 +1,6 @@
 -- Short trees for what stays to be read.
-use Rattle.std.proofs.Common.{◌≡◌, ◌≤◌, ◌-◌, ◌==◌, ℕ, zero, suc, List, [], ◌∷◌, ◌++◌, map, length, get_or, refl, ap, sym, ◌∙◌, subst, arith, Bool, true, false, not, ◌&&◌, ◌||◌, nat_lt, nat_le, Option, Some, None}
+use Rattle.std.proofs.Common.{◌≡◌, ◌≤◌, ◌-◌, ◌==◌, ℕ, zero, suc, List, [], ◌∷◌, ◌++◌, map, length, get_or, refl, ap, sym, ◌∙◌, subst, arith, Bool, true, false, not, ◌&&◌, ◌||◌, nat_lt, nat_le, Option, Some, None, eqb-true}
+use Rattle.std.proofs.lemmas.Bool.{and_from}
 use Rattle.surface_tree.specs.declared.kind.Kind.{Kind}
 use Rattle.surface_tree.specs.declared.kind.Kind.TheVariants as k
 use Rattle.surface_tree.specs.declared.token.Token.{Token}
@@ -159,22 +160,11 @@ abbrev pub TailRoomy : List Want → Type 0
 TailRoomy [] = Unit {0}
 TailRoomy (w ∷ ws) = Roomy ws
 
-pub and_both : (a b : Bool) → a ≡ true → b ≡ true → (a && b) ≡ true
-and_both true b e h = h
-and_both false b e h = e
-
-pub not_true : (a : Bool) → not a ≡ true → a ≡ false
-not_true true h = cc
-not_true false h = refl
-
 pub at_most : (a b : ℕ) → nat_le a b ≡ true → a ≤ b
 at_most a b h = search (arith, h)
 
 pub is_at_most : (a b : ℕ) → a ≤ b → nat_le a b ≡ true
 is_at_most a b h = search (arith, h)
-
-pub eq_true : (a b : ℕ) → (a == b) ≡ true → a ≡ b
-eq_true a b h = search (arith, h)
 
 pub same_code : (x y : Kind) → kind_code x ≡ kind_code y → x ≡ y
 same_code x y e = sym (found x) ∙ ap (λ i. get_or kinds i k.KeywordAnd) e ∙ found y
@@ -186,7 +176,7 @@ or_cases P x y false c h e m p = m h
 holds_every : (P : Option Kind → Bool) (x : Kind) (ys : List Kind) → holds x ys ≡ true → every P (map Some ys) ≡ true → P (Some x) ≡ true
 holds_every P x [] h e = cc
 holds_every P x (y ∷ ys) h e =
-    or_cases P x y (kind_code x == kind_code y) (holds x ys) h (λ s. same_code x y (eq_true (kind_code x) (kind_code y) s))
+    or_cases P x y (kind_code x == kind_code y) (holds x ys) h (λ s. same_code x y (eqb-true (kind_code x) (kind_code y) s))
     (λ m. holds_every P x ys m (and_right (P (Some y)) (every P (map Some ys)) e)) (and_left (P (Some y)) (every P (map Some ys)) e)
 
 pub follows_at : (P : Option Kind → Bool) (g : Form) (y : Option Kind) → follows g y ≡ true → every P (all_follow g) ≡ true → P y ≡ true
@@ -196,7 +186,7 @@ follows_at P g (Some x) h e = holds_every P x (follow_of g) h (and_right (P None
 follows_all : (P : Option Kind → Bool) (g : Form) (ys : List (Option Kind)) → every (follows g) ys ≡ true → every P (all_follow g) ≡ true → every P ys ≡ true
 follows_all P g [] h e = refl
 follows_all P g (y ∷ ys) h e =
-    and_both (P y) (every P ys) (follows_at P g y (and_left (follows g y) (every (follows g) ys) h) e) (follows_all P g ys (and_right (follows g y) (every (follows g) ys) h) e)
+    and_from (P y) (every P ys) (follows_at P g y (and_left (follows g y) (every (follows g) ys) h) e) (follows_all P g ys (and_right (follows g y) (every (follows g) ys) h) e)
 
 nexts_all : (P : Option Kind → Bool) (g : Form) (ps : List Part) (ys : List (Option Kind)) → every (follows g) ys ≡ true → every P (nexts ps (all_follow g)) ≡ true → every P (nexts ps ys) ≡ true
 nexts_all P g [] ys h e = follows_all P g ys h e
@@ -209,7 +199,7 @@ nexts_all P g (Maybe i ∷ ps) ys h e = nexts_all P g ps ys h e
 pub calm_some : (g : Form) (ps : List Part) (ys : List (Option Kind)) → every (follows g) ys ≡ true → calm ps (all_follow g) ≡ true → calm ps ys ≡ true
 calm_some g [] ys h e = refl
 calm_some g (p ∷ ps) ys h e =
-    and_both (every (behind p) (nexts ps ys)) (calm ps ys)
+    and_from (every (behind p) (nexts ps ys)) (calm ps ys)
     (nexts_all (behind p) g ps ys h (and_left (every (behind p) (nexts ps (all_follow g))) (calm ps (all_follow g)) e))
     (calm_some g ps ys h (and_right (every (behind p) (nexts ps (all_follow g))) (calm ps (all_follow g)) e))
 
@@ -223,6 +213,6 @@ nexts_append (Maybe g ∷ ps) qs ys = nexts_append ps qs ys
 pub calm_append : (ps qs : List Part) (ys : List (Option Kind)) → calm ps (nexts qs ys) ≡ true → calm qs ys ≡ true → calm (ps ++ qs) ys ≡ true
 calm_append [] qs ys a b = b
 calm_append (p ∷ ps) qs ys a b =
-    and_both (every (behind p) (nexts (ps ++ qs) ys)) (calm (ps ++ qs) ys)
+    and_from (every (behind p) (nexts (ps ++ qs) ys)) (calm (ps ++ qs) ys)
     (subst (λ z. every (behind p) z ≡ true) (sym (nexts_append ps qs ys)) (and_left (every (behind p) (nexts ps (nexts qs ys))) (calm ps (nexts qs ys)) a))
     (calm_append ps qs ys (and_right (every (behind p) (nexts ps (nexts qs ys))) (calm ps (nexts qs ys)) a) b)

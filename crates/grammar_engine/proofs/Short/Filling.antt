@@ -1,5 +1,6 @@
 -- The short trees fit.
-use Rattle.std.proofs.Common.{◌≡◌, ◌<◌, ◌≤◌, ◌+◌, ◌-◌, ◌==◌, ℕ, zero, suc, List, [], ◌∷◌, ◌++◌, length, refl, sym, ◌∙◌, subst, arith, Bool, true, false, not, ◌&&◌, ◌||◌, nat_lt, nat_le, Option, Some}
+use Rattle.std.proofs.Common.{◌≡◌, ◌<◌, ◌≤◌, ◌+◌, ◌-◌, ◌==◌, ℕ, zero, suc, List, [], ◌∷◌, ◌++◌, length, refl, sym, ◌∙◌, subst, arith, Bool, true, false, not, ◌&&◌, nat_lt, nat_le, Option, Some, eq-eqb, ltb-true}
+use Rattle.std.proofs.lemmas.Bool.{or_left, and_from, not-true}
 use Rattle.surface_tree.specs.declared.kind.Kind.{Kind}
 use Rattle.surface_tree.specs.declared.token.Token.{Token}
 use Rattle.surface_tree.specs.declared.token.Content.{Content}
@@ -17,18 +18,15 @@ use Rattle.surface_grammar.specs.Words.{kind_code, accept, any_accepts}
 use Rattle.grammar_engine.specs.declared.want.Want.{Want}
 use Rattle.grammar_engine.specs.Places.{name_at}
 use Rattle.grammar_engine.specs.Rooms.{least_of}
-use Rattle.grammar_engine.proofs.Short.Calm.{picked, nexts, follows, behind, calm, all_follow, fits_room, rooms, tail_rooms, enough_part, enough_all, enough, leading, is_calm_rule, fill_part, fill_all, shortest, fill_wants, parts_of, Roomy, and_both, not_true, at_most, calm_some}
+use Rattle.grammar_engine.proofs.Short.Calm.{picked, nexts, follows, behind, calm, all_follow, fits_room, rooms, tail_rooms, enough_part, enough_all, enough, leading, is_calm_rule, fill_part, fill_all, shortest, fill_wants, parts_of, Roomy, at_most, calm_some}
 use Rattle.grammar_engine.proofs.Table.Chosen.{is_in_at}
 use Rattle.grammar_engine.proofs.Keeping.Grown.{Filled, front_append}
 use Rattle.grammar_engine.proofs.Short.Shortest.{pick_of, need_of, start_of}
 use Rattle.grammar_engine.proofs.Short.Sound.{sound, led_by}
-use Rattle.grammar_engine.proofs.Bools.{and_left, and_right, less, every, every_in, or_first}
-
-self : (a : ℕ) → (a == a) ≡ true
-self a = search arith
+use Rattle.grammar_engine.proofs.Bools.{and_left, and_right, every, every_in}
 
 pub accept_self : (w : Kind) → accept w w ≡ true
-accept_self w = or_first (kind_code w == kind_code w) _ (self (kind_code w))
+accept_self w = or_left (kind_code w == kind_code w) _ (eq-eqb (kind_code w) (kind_code w) refl)
 
 -- the laws, one by one
 pub rule_calm : (g : Form) (q : Rule) → IsIn q (rules_of g) → calm (body_of q) (all_follow g) ≡ true
@@ -56,7 +54,7 @@ pub short : (g : Form) → Short g
 short g =
     let s = split_short (nat_lt (pick_of g) (length (rules_of g))) (nat_le (depth_of (picked g)) (need_of g)) (rooms (need_of g - depth_of (picked g)) (body_of (picked g))) (any_accepts (bars_of (picked g)) (start_of g)) (enough 24 g)
     (and_right (every (is_calm_rule g) (rules_of g)) _ (sound g)) in
-    record { is_rule = less _ _ s.0; deep = at_most _ _ s.1; roomy = s.2; free = s.3; high = s.4 }
+    record { is_rule = ltb-true _ _ s.0; deep = at_most _ _ s.1; roomy = s.2; free = s.3; high = s.4 }
 
 pub picked_in : (g : Form) → IsIn (picked g) (rules_of g)
 picked_in g = is_in_at (rules_of g) (pick_of g) (r.Kind kind.KindTerm) (short g).is_rule
@@ -87,8 +85,8 @@ fit_part : (make : Form → Node) (name : Content) (room : ℕ) (e : Form → Bo
     → (p : Part) (x : Option Kind) → enough_part e p ≡ true → behind p x ≡ true → fits_room room p ≡ true → Fits room name (fill_part make name p) p x
 fit_part make name room e fits (Word w) x h b c = (accept_self w, λ i. refl)
 fit_part make name room e fits (One g) x h b c = fits g x h b (at_most (need_of g) room c)
-fit_part make name room e fits (Many g) x h b c = not_true (must_go_on g x) (and_right (follows g x) (not (must_go_on g x)) b)
-fit_part make name room e fits (Maybe g) x h b c = not_true (must_go_on g x) (and_right (follows g x) (not (must_go_on g x)) b)
+fit_part make name room e fits (Many g) x h b c = not-true (must_go_on g x) (and_right (follows g x) (not (must_go_on g x)) b)
+fit_part make name room e fits (Maybe g) x h b c = not-true (must_go_on g x) (and_right (follows g x) (not (must_go_on g x)) b)
 
 fit_all : (make : Form → Node) (name : Content) (room : ℕ) (e : Form → Bool) → ((h : Form) → e h ≡ true → (x : Option Kind) → front (spell (make h)) x ≡ Some (start_of h))
     → ((h : Form) (y : Option Kind) → e h ≡ true → follows h y ≡ true → need_of h ≤ room → Fits room name (make h) (One h) y)
@@ -105,7 +103,7 @@ more_room : (n m : ℕ) (ps : List Part) → n ≤ m → rooms n ps ≡ true →
 more_room n m [] l h = refl
 more_room n m (Word w ∷ ps) l h = more_room n m ps l h
 more_room n m (One g ∷ ps) l h =
-    and_both (nat_le (need_of g) m) (rooms m ps) (wider (need_of g) (at_most (need_of g) n (and_left (nat_le (need_of g) n) (rooms n ps) h))) (more_room n m ps l (and_right (nat_le (need_of g) n) (rooms n ps) h))
+    and_from (nat_le (need_of g) m) (rooms m ps) (wider (need_of g) (at_most (need_of g) n (and_left (nat_le (need_of g) n) (rooms n ps) h))) (more_room n m ps l (and_right (nat_le (need_of g) n) (rooms n ps) h))
   where
     wider : (a : ℕ) → a ≤ n → nat_le a m ≡ true
     wider a b = search (arith, l, b)
@@ -117,7 +115,7 @@ tail_more_room n m [] l h = refl
 tail_more_room n m (p ∷ ps) l h = more_room n m ps l h
 
 pub follows_one : (g : Form) (y : Option Kind) → follows g y ≡ true → every (follows g) (y ∷ []) ≡ true
-follows_one g y h = and_both (follows g y) true h refl
+follows_one g y h = and_from (follows g y) true h refl
 
 pub short_fits : (n : ℕ) (name : Content) (g : Form) (room : ℕ) (y : Option Kind) → enough n g ≡ true → follows g y ≡ true → need_of g ≤ room → Fits room name (shortest n name g) (One g) y
 short_fits zero name g room y h b c = cc

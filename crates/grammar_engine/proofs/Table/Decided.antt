@@ -1,5 +1,6 @@
 -- The laws of the table, computed, and what they say.
-use Rattle.std.proofs.Common.{◌≡◌, ◌<◌, ℕ, zero, suc, List, [], ◌∷◌, length, get_or, refl, sym, subst, ◌∙◌, arith, Bool, true, false, not, ◌&&◌, ◌||◌, if◌then◌else◌, Some, nat_lt}
+use Rattle.std.proofs.Common.{◌≡◌, ◌<◌, ℕ, zero, suc, List, [], ◌∷◌, length, get_or, refl, sym, subst, ◌∙◌, arith, Bool, true, false, not, ◌||◌, if◌then◌else◌, Some, nat_lt, ltb-true}
+use Rattle.std.proofs.lemmas.Bool.{and_left as no_left, and_right as no_right, not_from_true}
 use Rattle.std.proofs.Math.Logic.{inl, inr}
 use Rattle.surface_tree.specs.declared.kind.Kind.{Kind}
 use Rattle.surface_tree.specs.declared.kind.Kind.TheVariants as k
@@ -15,7 +16,7 @@ use Rattle.surface_grammar.specs.Words.{kind_code}
 use Rattle.grammar_engine.specs.Laws.{is_raced_form, starts_none, starts_single, one_token_decides, solid, all_solid, every_kind}
 use Rattle.surface_grammar.proofs.Every.{of_each}
 use Rattle.surface_grammar.proofs.Listed.{of_each_by}
-use Rattle.grammar_engine.proofs.Bools.{and_left, and_right, less}
+use Rattle.grammar_engine.proofs.Bools.{and_left, and_right}
 use Rattle.grammar_engine.proofs.Table.ByWords.{decides_by}
 
 abbrev pub kinds : List Kind
@@ -58,7 +59,7 @@ all_solid_of : (g : Form) → all_solid (rules_of g) ≡ true
 all_solid_of g = of_each (λ (g : Form). all_solid (rules_of g)) refl g
 
 pub decides : (g : Form) (x : Kind) → one_token_decides g x ≡ true
-decides g x = subst (λ y. decides_by first_of g y ≡ true) (found x) (every_at (decides_by first_of g) kinds (kind_code x) k.KeywordAnd (decided g) (less (kind_code x) (length kinds) (low x)))
+decides g x = subst (λ y. decides_by first_of g y ≡ true) (found x) (every_at (decides_by first_of g) kinds (kind_code x) k.KeywordAnd (decided g) (ltb-true (kind_code x) (length kinds) (low x)))
 
 solid_in : (qs : List Rule) (q : Rule) → all_solid qs ≡ true → IsIn q qs → solid (body_of q) ≡ true
 solid_in [] q h i = absurd i
@@ -70,16 +71,8 @@ rule_solid g q i = solid_in (rules_of g) q (all_solid_of g) i
 
 some_starts : (qs : List Rule) (q : Rule) (x : Kind) → IsIn q qs → starts q x ≡ true → starts_none qs x ≡ false
 some_starts [] q x i h = absurd i
-some_starts (p ∷ qs) q x (inl e) h = no_and (starts p x) (starts_none qs x) (subst (λ z. starts z x ≡ true) e h)
-  where
-    no_and : (a b : Bool) → a ≡ true → (not a && b) ≡ false
-    no_and true b e = refl
-    no_and false b e = cc
-some_starts (p ∷ qs) q x (inr i) h = and_no (not (starts p x)) (starts_none qs x) (some_starts qs q x i h)
-  where
-    and_no : (a b : Bool) → b ≡ false → (a && b) ≡ false
-    and_no true b e = e
-    and_no false b e = refl
+some_starts (p ∷ qs) q x (inl e) h = no_left (not (starts p x)) (starts_none qs x) (not_from_true (starts p x) (subst (λ z. starts z x ≡ true) e h))
+some_starts (p ∷ qs) q x (inr i) h = no_right (not (starts p x)) (starts_none qs x) (some_starts qs q x i h)
 
 -- a token that begins a rule of the form begins the form
 pub starts_begins : (g : Form) (q : Rule) (x : Kind) → IsIn q (rules_of g) → starts q x ≡ true → begins g (Some x) ≡ true

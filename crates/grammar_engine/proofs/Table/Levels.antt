@@ -1,6 +1,7 @@
 -- How deep the forms race: 0 where one token decides each choice, 1 where the open option may stand, 2 elsewhere. Elements
 -- stand in the latter alone.
 use Rattle.std.proofs.Common.{◌≡◌, ◌≤◌, ℕ, List, [], ◌∷◌, refl, arith, Bool, true, false, not, ◌&&◌, ◌||◌, nat_le, Option}
+use Rattle.std.proofs.lemmas.Bool.{or_right, and_from, not-true}
 use Rattle.surface_tree.specs.declared.kind.Kind.{Kind}
 use Rattle.surface_tree.specs.declared.token.Content.{Content}
 use Rattle.surface_grammar.specs.declared.form.Form.{Form}
@@ -12,7 +13,7 @@ use Rattle.surface_grammar.specs.Forms.{rules_of}
 use Rattle.surface_grammar.specs.Sides.{is_element, is_tag}
 use Rattle.surface_grammar.specs.Table.{body_of}
 use Rattle.surface_grammar.specs.Trees.{Node, leaf, branch, several, absent, present, Nodes, none, more, spell_all, front, IsIn, Fits, FitsAll, FitsEach}
-use Rattle.grammar_engine.proofs.Short.Calm.{not_true, at_most, and_both}
+use Rattle.grammar_engine.proofs.Short.Calm.{at_most}
 use Rattle.surface_grammar.proofs.Every.{of_each}
 use Rattle.grammar_engine.proofs.Bools.{and_left, and_right, every, every_in, no_tag}
 
@@ -124,24 +125,20 @@ low_or n b l h = by_low (nat_le 2 n) b (above n l) h
     above m k = search (arith, k)
 
 pub no_element : (g : Form) (q : Rule) → IsIn q (rules_of g) → level_of g ≤ 1 → is_element q ≡ false
-no_element g q i l = not_true (is_element q) (low_or (level_of g) (not (is_element q)) l (and_right (keep_all (level_of g) (body_of q)) _ (every_in (is_kept g) (rules_of g) q (all_kept g) i)))
+no_element g q i l = not-true (is_element q) (low_or (level_of g) (not (is_element q)) l (and_right (keep_all (level_of g) (body_of q)) _ (every_in (is_kept g) (rules_of g) q (all_kept g) i)))
 
 wider : (a n m : ℕ) → a ≤ n → n ≤ m → nat_le a m ≡ true
 wider a n m b l = search (arith, b, l)
 
 raise_part : (n m : ℕ) (p : Part) → n ≤ m → m ≤ 1 → part_keeps n p ≡ true → part_keeps m p ≡ true
-raise_part n m (Word w) l k h = or_second (nat_le 2 m) (not (is_tag w)) (low_or n (not (is_tag w)) (omega (arith, l, k)) h)
-  where
-    or_second : (a b : Bool) → b ≡ true → (a || b) ≡ true
-    or_second true b e = refl
-    or_second false b e = e
+raise_part n m (Word w) l k h = or_right (nat_le 2 m) (not (is_tag w)) (low_or n (not (is_tag w)) (omega (arith, l, k)) h)
 raise_part n m (One g) l k h = wider (level_of g) n m (at_most (level_of g) n h) l
 raise_part n m (Many g) l k h = wider (level_of g) n m (at_most (level_of g) n h) l
 raise_part n m (Maybe g) l k h = wider (level_of g) n m (at_most (level_of g) n h) l
 
 raise_all : (n : ℕ) (ps : List Part) → n ≤ 1 → keep_all n ps ≡ true → keep_all 1 ps ≡ true
 raise_all n [] l h = refl
-raise_all n (p ∷ ps) l h = and_both (part_keeps 1 p) (keep_all 1 ps) (raise_part n 1 p l (omega arith) (and_left (part_keeps n p) (keep_all n ps) h)) (raise_all n ps l (and_right (part_keeps n p) (keep_all n ps) h))
+raise_all n (p ∷ ps) l h = and_from (part_keeps 1 p) (keep_all 1 ps) (raise_part n 1 p l (omega arith) (and_left (part_keeps n p) (keep_all n ps) h)) (raise_all n ps l (and_right (part_keeps n p) (keep_all n ps) h))
 
 -- in a tree without elements the name of the element around it doesn't matter
 mutual

@@ -1,6 +1,5 @@
 -- A form stands above those that its rules can begin with, so that beginning rules comes to an end.
-use Rattle.std.proofs.Common.{◌≡◌, ◌<◌, ◌+◌, ℕ, max, List, [], ◌∷◌, length, refl, sym, subst, arith, Bool, true, false, ◌&&◌, nat_lt}
-use Rattle.std.proofs.Math.Logic.{inl, inr}
+use Rattle.std.proofs.Common.{◌≡◌, ◌<◌, ◌+◌, ℕ, max, List, [], ◌∷◌, length, refl, Bool, true, ◌&&◌, nat_lt, ltb-true}
 use Rattle.surface_grammar.specs.declared.form.Form.{Form}
 use Rattle.surface_grammar.specs.declared.form.Form.TheVariants as f
 use Rattle.surface_grammar.specs.declared.part.Part.{Part}
@@ -10,7 +9,7 @@ use Rattle.surface_grammar.specs.Forms.{rules_of}
 use Rattle.surface_grammar.specs.Table.{body_of}
 use Rattle.surface_grammar.specs.Trees.{IsIn}
 use Rattle.surface_grammar.proofs.Every.{of_each}
-use Rattle.grammar_engine.proofs.Bools.{and_left, and_right, less, every, every_in}
+use Rattle.grammar_engine.proofs.Bools.{and_left, and_right, every, every_in}
 
 abbrev pub rank_of : Form → ℕ
 rank_of f.KindTerm = 2
@@ -97,10 +96,10 @@ low : (g : Form) → nat_lt (rank_of g) 20 ≡ true
 low g = of_each (λ (g : Form). nat_lt (rank_of g) 20) refl g
 
 pub rank_low : (g : Form) → rank_of g < 20
-rank_low g = less (rank_of g) 20 (low g)
+rank_low g = ltb-true (rank_of g) 20 (low g)
 
 pub leads_below : (g : Form) (q : Rule) → IsIn q (rules_of g) → lead (body_of q) < rank_of g
-leads_below g q i = less _ _ (and_left _ (nat_lt (length (body_of q)) 16) (every_in (is_ranked g) (rules_of g) q (all_ranked g) i))
+leads_below g q i = ltb-true _ _ (and_left _ (nat_lt (length (body_of q)) 16) (every_in (is_ranked g) (rules_of g) q (all_ranked g) i))
 
 pub body_short : (g : Form) (q : Rule) → IsIn q (rules_of g) → length (body_of q) < 16
-body_short g q i = less _ _ (and_right (nat_lt (lead (body_of q)) (rank_of g)) _ (every_in (is_ranked g) (rules_of g) q (all_ranked g) i))
+body_short g q i = ltb-true _ _ (and_right (nat_lt (lead (body_of q)) (rank_of g)) _ (every_in (is_ranked g) (rules_of g) q (all_ranked g) i))

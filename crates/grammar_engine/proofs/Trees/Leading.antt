@@ -1,5 +1,6 @@
 -- A tree begins with a token that begins its form.
-use Rattle.std.proofs.Common.{◌≡◌, ℕ, List, [], ◌∷◌, ◌++◌, refl, ap, subst, Bool, true, false, not, ◌&&◌, ◌||◌, Option, Some}
+use Rattle.std.proofs.Common.{◌≡◌, ℕ, List, [], ◌∷◌, ◌++◌, refl, ap, subst, Bool, true, false, not, ◌&&◌, Option, Some}
+use Rattle.std.proofs.lemmas.Bool.{or_right, or_left}
 use Rattle.surface_tree.specs.declared.kind.Kind.{Kind}
 use Rattle.surface_tree.specs.declared.token.Token.{Token}
 use Rattle.surface_tree.specs.declared.token.Content.{Content}
@@ -14,7 +15,6 @@ use Rattle.surface_grammar.specs.Trees.{Node, leaf, branch, several, absent, pre
 use Rattle.surface_grammar.specs.Words.{any_accepts}
 use Rattle.grammar_engine.specs.Laws.{solid}
 use Rattle.grammar_engine.proofs.Table.Decided.{rule_solid, starts_begins}
-use Rattle.grammar_engine.proofs.Bools.{or_first}
 
 -- the tokens begin with one that passes
 pub record Led (ok : Kind → Bool) (ts : List Token) : Type 0 where
@@ -22,10 +22,6 @@ pub record Led (ok : Kind → Bool) (ts : List Token) : Type 0 where
   pub rest : List Token
   pub is : ts ≡ token ∷ rest
   pub passes : ok token.kind ≡ true
-
-or_right : (a b : Bool) → b ≡ true → (a || b) ≡ true
-or_right true b h = refl
-or_right false b h = h
 
 both : (b l : Bool) → b ≡ false → l ≡ true → (not b && l) ≡ true
 both true l e h = cc
@@ -66,7 +62,7 @@ mutual
       record { token = l.token; rest = l.rest; is = l.is; passes = or_right (begins g (Some l.token.kind)) _ l.passes }
   nodes_led (more (several (more n ms)) ns) (Many g ∷ ps) room name x s f =
       let l = node_led n g room name (front (spell_all ms) (front (spell_all ns) x)) f.0.0 in
-      record { token = l.token; rest = l.rest ++ spell_all ms ++ spell_all ns; is = ap (λ z. z ++ spell_all ms ++ spell_all ns) l.is; passes = or_first _ (leads ps l.token.kind) l.passes }
+      record { token = l.token; rest = l.rest ++ spell_all ms ++ spell_all ns; is = ap (λ z. z ++ spell_all ms ++ spell_all ns) l.is; passes = or_left _ (leads ps l.token.kind) l.passes }
   nodes_led (more (leaf t) ns) (Maybe g ∷ ps) room name x s f = absurd f.0
   nodes_led (more (branch q ms) ns) (Maybe g ∷ ps) room name x s f = absurd f.0
   nodes_led (more (several ms) ns) (Maybe g ∷ ps) room name x s f = absurd f.0
@@ -75,4 +71,4 @@ mutual
       record { token = l.token; rest = l.rest; is = l.is; passes = or_right (begins g (Some l.token.kind)) _ l.passes }
   nodes_led (more (present n) ns) (Maybe g ∷ ps) room name x s f =
       let l = node_led n g room name (front (spell_all ns) x) f.0 in
-      record { token = l.token; rest = l.rest ++ spell_all ns; is = ap (λ z. z ++ spell_all ns) l.is; passes = or_first _ (leads ps l.token.kind) l.passes }
+      record { token = l.token; rest = l.rest ++ spell_all ns; is = ap (λ z. z ++ spell_all ns) l.is; passes = or_left _ (leads ps l.token.kind) l.passes }

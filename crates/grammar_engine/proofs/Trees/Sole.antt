@@ -1,5 +1,6 @@
 -- Two trees of a part at the front of one list of tokens, behind which stands what may stand there, are one tree.
 use Rattle.std.proofs.Common.{◌≡◌, ℕ, List, [], ◌∷◌, ◌++◌, refl, ap, sym, ◌∙◌, subst, append_assoc, Bool, true, false, not, ◌&&◌, ◌||◌, Option, Some, None}
+use Rattle.std.proofs.lemmas.Bool.{cases_Bool}
 use Rattle.surface_tree.specs.declared.kind.Kind.{Kind}
 use Rattle.surface_tree.specs.declared.kind.Kind.TheVariants as k
 use Rattle.surface_tree.specs.declared.token.Token.{Token}
@@ -30,7 +31,7 @@ use Rattle.grammar_engine.proofs.Fronts.Scan.{scan}
 use Rattle.grammar_engine.proofs.Fronts.Scanned.{bindings_apart}
 use Rattle.grammar_engine.proofs.Fronts.Skimmed.{exact}
 use Rattle.grammar_engine.proofs.Trees.Unique.{front_kind, begun_kind, first_same, is_left_open}
-use Rattle.grammar_engine.proofs.Bools.{and_left, and_right, both_open, clash, by_cases}
+use Rattle.grammar_engine.proofs.Bools.{and_left, and_right, both_open, clash}
 use Rattle.grammar_engine.proofs.Trees.TextParts.{part_whole}
 
 pub record Same (n o : Node) (after behind : List Token) : Type 0 where
@@ -199,7 +200,7 @@ mutual
   same_node (branch q ns) absent (One g) after behind room space name other f f' e u1 u2 = absurd f'
   same_node (branch q ns) (present o) (One g) after behind room space name other f f' e u1 u2 = absurd f'
   same_node (branch q ns) (branch p os) (One g) after behind room space name other f f' e u1 u2 =
-      let rule : q ≡ p = same_rule g q p ns os after behind f.0 f'.0 room space f.1 f'.1 name other f.2 f'.2 f.3 f'.3 e (λ i. tidy_ends room name g after u1 i) (λ i. tidy_ends space other g behind u2 i) (by_cases (is_raced_form g)) in
+      let rule : q ≡ p = same_rule g q p ns os after behind f.0 f'.0 room space f.1 f'.1 name other f.2 f'.2 f.3 f'.3 e (λ i. tidy_ends room name g after u1 i) (λ i. tidy_ends space other g behind u2 i) (cases_Bool (is_raced_form g)) in
       let fits : FitsAll f'.0 f'.1 os (body_of q) (first_kind behind) = subst (λ z. FitsAll f'.0 f'.1 os (body_of z) (first_kind behind)) (sym rule) f'.3 in
       let inside = same_nodes g ns os (body_of q) after behind f.0 f'.0 f.1 f'.1 f.3 fits e (rule_tidy g q f.2.rule) (λ i. tidy_ends room name g after u1 i) (λ i. tidy_marks room name g after u1 i) (λ i. tidy_ends space other g behind u2 i) (λ i. tidy_marks space other g behind u2 i) in
       record { tree = ap (branch q) inside.trees ∙ ap (λ z. branch z os) rule; rest = inside.rest }

@@ -1,5 +1,6 @@
 -- Two trees at the front of one list of tokens that choose alike are one tree.
 use Rattle.std.proofs.Common.{◌≡◌, ℕ, List, [], ◌∷◌, ◌++◌, refl, ap, sym, ◌∙◌, subst, append_assoc, Bool, true, false, not, ◌&&◌, if◌then◌else◌, Option, Some}
+use Rattle.std.proofs.lemmas.Bool.{cases_Bool}
 use Rattle.surface_tree.specs.declared.kind.Kind.{Kind}
 use Rattle.surface_tree.specs.declared.token.Token.{Token}
 use Rattle.surface_tree.specs.declared.token.Content.{Content}
@@ -20,7 +21,6 @@ use Rattle.grammar_engine.specs.Laws.{is_raced_form}
 use Rattle.std.proofs.Math.Logic.{◌⊎◌, inl, inr}
 use Rattle.grammar_engine.proofs.Table.Decided.{rule_solid, one_rule}
 use Rattle.grammar_engine.proofs.Trees.Leading.{Led, started, node_led, nodes_led}
-use Rattle.grammar_engine.proofs.Bools.{by_cases}
 
 pub record Same (n o : Node) (after behind : List Token) (c d : List Mark) : Type 0 where
   pub tree : n ≡ o
@@ -118,7 +118,7 @@ mutual
   same_node (branch q ns) absent (One g) after behind c d room space name other f f' e ec = absurd f'
   same_node (branch q ns) (present o) (One g) after behind c d room space name other f f' e ec = absurd f'
   same_node (branch q ns) (branch p os) (One g) after behind c d room space name other f f' e ec =
-      let rule : q ≡ p = same_rule g q p ns os after behind c d f.0 f'.0 room space f.1 f'.1 name other f.2 f'.2 f.3 f'.3 e ec (by_cases (is_raced_form g)) in
+      let rule : q ≡ p = same_rule g q p ns os after behind c d f.0 f'.0 room space f.1 f'.1 name other f.2 f'.2 f.3 f'.3 e ec (cases_Bool (is_raced_form g)) in
       let fits : FitsAll f'.0 f'.1 os (body_of q) (first_kind behind) = subst (λ z. FitsAll f'.0 f'.1 os (body_of z) (first_kind behind)) (sym rule) f'.3 in
       let chosen : choices (branch q ns) (One g) (first_kind after) ++ c ≡ choices (branch q os) (One g) (first_kind behind) ++ d = subst (λ z. choices (branch q ns) (One g) (first_kind after) ++ c ≡ choices (branch z os) (One g) (first_kind behind) ++ d) (sym rule) ec in
       let inside = same_nodes ns os (body_of q) after behind c d f.0 f'.0 f.1 f'.1 f.3 fits e (cancel (is_raced q) (m.Rule q) _ _ c d chosen) in

@@ -6,6 +6,7 @@ use Rattle.std.specs.Char.{is_ascii_lowercase, is_ascii_uppercase, is_ascii_digi
 use Rattle.std.proofs.lemmas.Bool.Decides.{nat_tests}
 use Rattle.std.proofs.lemmas.List.Folds.{length-prefix_len}
 use Rattle.std.proofs.lemmas.List.Sums.{prefix_len-le-length}
+use Rattle.std.proofs.lemmas.Bool.{or_parts, not-true, false_from_ne_true}
 use Rattle.surface_tree.specs.declared.kind.Kind.{Kind}
 use Rattle.surface_tree.specs.declared.kind.Kind.TheVariants.{LowerName, UpperName, AttributeName, Integer, StringLiteral, TagOpen, TextRun, LeftBrace}
 use Rattle.surface_tree.specs.declared.token.Content.TheVariants.{Nothing, Number, Characters}
@@ -144,14 +145,6 @@ integer_best bs other found e is = record {
 
 -- ---- tests of first bytes
 
-or_false : (p q : Bool) → (p || q) ≡ false → (p ≡ false) × (q ≡ false)
-or_false true q h = cc
-or_false false q h = (refl, h)
-
-not_true : (p : Bool) → not p ≡ true → p ≡ false
-not_true true h = cc
-not_true false h = refl
-
 not_zero : (n : ℕ) → (n == 0) ≡ false → 0 < n
 not_zero n h = grind (arith, nat_tests)
 
@@ -201,10 +194,10 @@ module _ (b : ℕ) where
 
   plain_tests : is_plain ≡ true → (begins_lower b ≡ false) × (is_ascii_uppercase b ≡ false) × (is_ascii_digit b ≡ false) × ((b == 34) ≡ false) × (is_ascii_lowercase b ≡ false)
   plain_tests h =
-      let one = or_false (begins_lower b || is_ascii_uppercase b || is_ascii_digit b) (b == 34) (not_true _ h) in
-      let two = or_false (begins_lower b || is_ascii_uppercase b) (is_ascii_digit b) one.0 in
-      let three = or_false (begins_lower b) (is_ascii_uppercase b) two.0 in
-      let four = or_false (is_ascii_lowercase b) (b == 95) three.0 in
+      let one = or_parts (begins_lower b || is_ascii_uppercase b || is_ascii_digit b) (b == 34) (not-true _ h) in
+      let two = or_parts (begins_lower b || is_ascii_uppercase b) (is_ascii_digit b) one.0 in
+      let three = or_parts (begins_lower b) (is_ascii_uppercase b) two.0 in
+      let four = or_parts (is_ascii_lowercase b) (b == 95) three.0 in
       (three.0, three.1, two.1, one.1, four.0)
 
 -- ---- strings, tags and runs
@@ -269,12 +262,8 @@ stops_run_brace (b ∷ bs) h = let n = brace_no_mark b h in rw (n, h) refl
 run_first_at : (bs : Bytes) (other : Found) → IsRun bs other → (run bs).1 ≡ 0 → ⊥
 run_first_at bs other is e = omega (arith, is.some, e)
 
-if_not : (p : Bool) → (p ≡ true → ⊥) → p ≡ false
-if_not true h = absurd (h refl)
-if_not false h = refl
-
 run_first : (bs : Bytes) (other : Found) → IsRun bs other → ((get_or bs 0 0 == 60) ≡ false) × ((get_or bs 0 0 == 123) ≡ false)
-run_first bs other is = (if_not _ (λ t. run_first_at bs other is (stops_run bs t)), if_not _ (λ t. run_first_at bs other is (stops_run_brace bs t)))
+run_first bs other is = (false_from_ne_true _ (λ t. run_first_at bs other is (stops_run bs t)), false_from_ne_true _ (λ t. run_first_at bs other is (stops_run_brace bs t)))
 
 -- ---- by the mode
 

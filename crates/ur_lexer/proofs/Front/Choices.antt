@@ -1,6 +1,6 @@
 -- Cases of tests and options.
 use Rattle.std.proofs.Common.{◌≡◌, Bool, true, false, Option, Some, None, refl, option_map}
-use Rattle.std.specs.Prelude.{if◌then◌else◌, ◌&&◌}
+use Rattle.std.specs.Prelude.{if◌then◌else◌}
 
 -- a choice of two options that gives a value gives it by one of them
 pub either : {A P : Type 0} (t : Bool) (l r : Option A) (e : A) → (if t then l else r) ≡ Some e → (t ≡ true → l ≡ Some e → P) → (t ≡ false → r ≡ Some e → P) → P
@@ -11,14 +11,6 @@ either false l r e h left right = right refl h
 pub mapped : {A B P : Type 0} (f : A → B) (o : Option A) (e : B) → option_map f o ≡ Some e → ((x : A) → o ≡ Some x → f x ≡ e → P) → P
 mapped f None e h go = cc
 mapped f (Some x) e h go = go x refl (cc)
-
-pub and_left : (p q : Bool) → (p && q) ≡ true → p ≡ true
-and_left true q h = refl
-and_left false q h = h
-
-pub and_right : (p q : Bool) → (p && q) ≡ true → q ≡ true
-and_right true q h = h
-and_right false q h = cc
 
 -- cases of a test, and of an option
 pub by_test : {P : Type 0} (t : Bool) → (t ≡ true → P) → (t ≡ false → P) → P

@@ -1,7 +1,7 @@
 -- Runs of bytes that pass a test.
 use Rattle.std.proofs.Common.{◌≡◌, ◌<◌, ◌≤◌, ℕ, zero, suc, Bool, true, false, [], ◌∷◌, length, take, get_or, refl, subst, arith}
 use Rattle.std.specs.List.{prefix_len, list_all}
-use Rattle.ur_lexer.proofs.Front.Choices.{and_left, and_right}
+use Rattle.std.proofs.lemmas.Bool.{and_parts}
 use Rattle.ur_lexer.specs.Bytes.{Bytes}
 
 -- bytes at the front that all pass are no more than the run
@@ -9,8 +9,8 @@ pub all_within : (p : ℕ → Bool) (n : ℕ) (bs : Bytes) → n ≤ length bs �
 all_within p zero bs l h = omega arith
 all_within p (suc n) [] l h = absurd (omega arith)
 all_within p (suc n) (b ∷ bs) l h =
-    let one : p b ≡ true = and_left (p b) (list_all p (take n bs)) h in
-    let more = all_within p n bs (omega arith) (and_right (p b) (list_all p (take n bs)) h) in
+    let one : p b ≡ true = (and_parts (p b) (list_all p (take n bs)) h).0 in
+    let more = all_within p n bs (omega arith) (and_parts (p b) (list_all p (take n bs)) h).1 in
     rw one (omega (arith, more))
 
 run_at : (p : ℕ → Bool) (b : ℕ) (bs : Bytes) (t : Bool) → p b ≡ t → list_all p (take (prefix_len p bs) bs) ≡ true → list_all p (take (prefix_len p (b ∷ bs)) (b ∷ bs)) ≡ true
@@ -34,5 +34,5 @@ run_some p (b ∷ bs) l h = rw h (omega arith)
 pub passes_at : (p : ℕ → Bool) (n : ℕ) (bs : Bytes) (i : ℕ) → n ≤ length bs → list_all p (take n bs) ≡ true → i < n → p (get_or bs i 0) ≡ true
 passes_at p zero bs i l h lt = absurd (omega arith)
 passes_at p (suc n) [] i l h lt = absurd (omega arith)
-passes_at p (suc n) (b ∷ bs) zero l h lt = and_left (p b) (list_all p (take n bs)) h
-passes_at p (suc n) (b ∷ bs) (suc i) l h lt = passes_at p n bs i (omega arith) (and_right (p b) (list_all p (take n bs)) h) (omega arith)
+passes_at p (suc n) (b ∷ bs) zero l h lt = (and_parts (p b) (list_all p (take n bs)) h).0
+passes_at p (suc n) (b ∷ bs) (suc i) l h lt = passes_at p n bs i (omega arith) (and_parts (p b) (list_all p (take n bs)) h).1 (omega arith)

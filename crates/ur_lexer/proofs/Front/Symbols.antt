@@ -4,6 +4,7 @@ use Rattle.std.specs.Prelude.{◌&&◌, ◌==◌, not, nat_le, nat_eq}
 use Rattle.std.specs.List.{list_all, starts_with}
 use Rattle.std.specs.Cmp.Lexicographic.{pointwise, same_text, other_text}
 use Rattle.std.proofs.lemmas.Bool.Decides.{nat_tests}
+use Rattle.std.proofs.lemmas.Bool.{and_parts, not-true}
 use Rattle.surface_tree.specs.declared.kind.Kind.{Kind}
 use Rattle.surface_tree.specs.declared.token.Content.TheVariants.{Nothing}
 use Rattle.ur_lexer.specs.declared.pieces.Found.{Found}
@@ -11,7 +12,6 @@ use Rattle.ur_lexer.specs.declared.state.Turn.{Turn}
 use Rattle.ur_lexer.specs.Bytes.{Bytes}
 use Rattle.ur_lexer.specs.Words.{symbol_at, stands}
 use Rattle.ur_lexer.specs.Lexing.{IsSymbol, IsEntry}
-use Rattle.ur_lexer.proofs.Front.Choices.{and_left, and_right}
 use Rattle.ur_lexer.proofs.Steps.EntitySteps.{front_length, front_reads_at}
 
 abbrev Entry : Type 0
@@ -35,7 +35,7 @@ falls (entry ∷ table) = list_all (fewer entry.0) table && falls table
 
 stands_entry : (spelling bs : Bytes) → stands spelling bs ≡ true → (0 < length spelling) × (starts_with nat_eq bs spelling ≡ true)
 stands_entry spelling bs h =
-    (nonzero (length spelling) (and_left (not (length spelling == 0)) (starts_with nat_eq bs spelling) h), and_right (not (length spelling == 0)) (starts_with nat_eq bs spelling) h)
+    (nonzero (length spelling) (and_parts (not (length spelling == 0)) (starts_with nat_eq bs spelling) h).0, (and_parts (not (length spelling == 0)) (starts_with nat_eq bs spelling) h).1)
   where
     nonzero : (n : ℕ) → not (n == 0) ≡ true → 0 < n
     nonzero n e = grind (arith, nat_tests)
@@ -65,14 +65,10 @@ symbol_stands [] bs token h = cc
 symbol_stands (entry ∷ table) bs token h = symbol_step entry table bs token (stands entry.0 bs) refl h (symbol_stands table bs token)
 
 is_fewer : (n m : ℕ) (t : Bool) → (nat_le n m && not t) ≡ true → (n ≤ m) × (t ≡ false)
-is_fewer n m t h = (fits (and_left (nat_le n m) (not t) h), refuted t (and_right (nat_le n m) (not t) h))
+is_fewer n m t h = (fits (and_parts (nat_le n m) (not t) h).0, not-true t (and_parts (nat_le n m) (not t) h).1)
   where
     fits : nat_le n m ≡ true → n ≤ m
     fits e = grind (arith, nat_tests)
-
-    refuted : (t : Bool) → not t ≡ true → t ≡ false
-    refuted true e = sym e
-    refuted false e = refl
 
 same_spelling : (a b bs : Bytes) → starts_with nat_eq bs a ≡ true → starts_with nat_eq bs b ≡ true → length a ≡ length b → a ≡ b
 same_spelling a b bs p q e =
@@ -88,8 +84,8 @@ entry_below spelling bs entry token s f is =
 
 below : (spelling bs : Bytes) (table : List Entry) (token : Found) → starts_with nat_eq bs spelling ≡ true → list_all (fewer spelling) table ≡ true → IsSymbol table bs token → (token.len ≤ length spelling) × (token.len ≡ length spelling → ⊥)
 below spelling bs [] token s f h = absurd h
-below spelling bs (entry ∷ table) token s f (inl h) = entry_below spelling bs entry token s (and_left (fewer spelling entry) (list_all (fewer spelling) table) f) h
-below spelling bs (entry ∷ table) token s f (inr h) = below spelling bs table token s (and_right (fewer spelling entry) (list_all (fewer spelling) table) f) h
+below spelling bs (entry ∷ table) token s f (inl h) = entry_below spelling bs entry token s (and_parts (fewer spelling entry) (list_all (fewer spelling) table) f).0 h
+below spelling bs (entry ∷ table) token s f (inr h) = below spelling bs table token s (and_parts (fewer spelling entry) (list_all (fewer spelling) table) f).1 h
 
 -- a token that is at least as long as another, and the same where it is as long
 pub record Best (found : Option Found) (other : Found) : Type 0 where
@@ -118,15 +114,15 @@ symbol_longest (entry ∷ table) bs other f (inl h) =
     let long : other.len ≡ length entry.0 = ap (λ (x : Found). x.len) h.2 in
     record { token = token; is = rw s refl; longer = omega (arith, long); same = λ l. h.2 }
 symbol_longest (entry ∷ table) bs other f (inr h) =
-    longest_step entry table bs other (stands entry.0 bs) refl (and_left (list_all (fewer entry.0) table) (falls table) f) h (symbol_longest table bs other (and_right (list_all (fewer entry.0) table) (falls table) f) h)
+    longest_step entry table bs other (stands entry.0 bs) refl (and_parts (list_all (fewer entry.0) table) (falls table) f).0 h (symbol_longest table bs other (and_parts (list_all (fewer entry.0) table) (falls table) f).1 h)
 
 -- what is true of the byte at a place of each spelling
 pub symbol_first : (p : ℕ → Bool) (table : List Entry) (bs : Bytes) (token : Found) → list_all (λ e. p (get_or e.0 0 0)) table ≡ true → IsSymbol table bs token → p (get_or bs 0 0) ≡ true
 symbol_first p [] bs token f h = absurd h
 symbol_first p (entry ∷ table) bs token f (inl h) =
     let same = front_reads_at bs entry.0 0 h.0 h.1 in
-    subst (λ (b : ℕ). p b ≡ true) (sym same) (and_left (p (get_or entry.0 0 0)) (list_all (λ e. p (get_or e.0 0 0)) table) f)
-symbol_first p (entry ∷ table) bs token f (inr h) = symbol_first p table bs token (and_right (p (get_or entry.0 0 0)) (list_all (λ e. p (get_or e.0 0 0)) table) f) h
+    subst (λ (b : ℕ). p b ≡ true) (sym same) (and_parts (p (get_or entry.0 0 0)) (list_all (λ e. p (get_or e.0 0 0)) table) f).0
+symbol_first p (entry ∷ table) bs token f (inr h) = symbol_first p table bs token (and_parts (p (get_or entry.0 0 0)) (list_all (λ e. p (get_or e.0 0 0)) table) f).1 h
 
 pub symbol_last : (p : ℕ → Bool) (table : List Entry) (bs : Bytes) (token : Found) → list_all (λ e. p (get_or e.0 (length e.0 - 1) 0)) table ≡ true → IsSymbol table bs token → (0 < token.len) × (token.len ≤ length bs) × (p (get_or bs (token.len - 1) 0) ≡ true)
 symbol_last p [] bs token f h = absurd h
@@ -136,7 +132,7 @@ symbol_last p (entry ∷ table) bs token f (inl h) =
     let long : token.len ≡ n = ap (λ (x : Found). x.len) h.2 in
     let within = front_length bs entry.0 h.1 in
     let same : get_or bs (n - 1) 0 ≡ get_or entry.0 (n - 1) 0 = front_reads_at bs entry.0 (n - 1) (omega arith) h.1 in
-    let last = and_left (p (get_or entry.0 (n - 1) 0)) (list_all (λ e. p (get_or e.0 (length e.0 - 1) 0)) table) f in
+    let last = (and_parts (p (get_or entry.0 (n - 1) 0)) (list_all (λ e. p (get_or e.0 (length e.0 - 1) 0)) table) f).0 in
     let there : p (get_or bs (n - 1) 0) ≡ true = subst (λ (b : ℕ). p b ≡ true) (sym same) last in
     (omega (arith, long), omega (arith, long, within), subst (λ (k : ℕ). p (get_or bs (k - 1) 0) ≡ true) (sym long) there)
-symbol_last p (entry ∷ table) bs token f (inr h) = symbol_last p table bs token (and_right (p (get_or entry.0 (length entry.0 - 1) 0)) (list_all (λ e. p (get_or e.0 (length e.0 - 1) 0)) table) f) h
+symbol_last p (entry ∷ table) bs token f (inr h) = symbol_last p table bs token (and_parts (p (get_or entry.0 (length entry.0 - 1) 0)) (list_all (λ e. p (get_or e.0 (length e.0 - 1) 0)) table) f).1 h

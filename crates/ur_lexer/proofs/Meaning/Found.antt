@@ -2,6 +2,7 @@
 use Rattle.std.proofs.Common.{◌≡◌, ◌<◌, ◌≤◌, ℕ, Bool, true, false, [], ◌∷◌, length, drop, get_or, refl, sym, ap, ◌∙◌, subst, arith, Option, Some, None}
 use Rattle.std.specs.Prelude.{◌==◌, ◌&&◌, nat_le, Result, Ok, Err}
 use Rattle.std.proofs.lemmas.Bool.Decides.{nat_tests}
+use Rattle.std.proofs.lemmas.Bool.{and_parts}
 use Rattle.surface_tree.specs.declared.token.Content.{Content}
 use Rattle.surface_tree.specs.declared.token.Content.TheVariants.{Nothing, Number, Characters}
 use Rattle.ur_lexer.specs.declared.fault.LexFault.{LexFault}
@@ -17,7 +18,7 @@ use Rattle.ur_lexer.specs.Where.{Where}
 use Rattle.ur_lexer.specs.Modes.{in_literal}
 use Rattle.ur_lexer.specs.Ahead.{ahead_at, comment_ahead, word_ahead, token_at, has_spaces}
 use Rattle.ur_lexer.specs.Lexing.{Stands, NoBlank, IsLongest, IsHeld, IsToken, IsBlank, a_comment, a_space, IsFault, open_comment, too_large, open_text, bad_escape, bad_char}
-use Rattle.ur_lexer.proofs.Front.Choices.{by_test, and_left, and_right}
+use Rattle.ur_lexer.proofs.Front.Choices.{by_test}
 use Rattle.ur_lexer.proofs.Front.Best.{best, best_longest, best_stands, string_found, spaced_string, true_eq, eq_true}
 use Rattle.ur_lexer.proofs.Front.Settled.{checked_content, missing, string_missing, settle, token_settles}
 use Rattle.ur_lexer.proofs.Front.Fronts.{front_cases}
@@ -163,7 +164,7 @@ missing_fault here at bs fault c l none h =
     by_test (has_spaces here.mode && (get_or bs 0 0 == 34))
     (λ t.
     let is : missing here.mode bs at ≡ string_missing at (quoted (drop 1 bs)) = rw t refl in
-    string_fault here at bs fault (quoted (drop 1 bs)) c (and_left _ _ t) l (true_eq (get_or bs 0 0) 34 (and_right (has_spaces here.mode) _ t)) none refl (sym is ∙ h))
+    string_fault here at bs fault (quoted (drop 1 bs)) c (and_parts _ _ t).0 l (true_eq (get_or bs 0 0) 34 (and_parts (has_spaces here.mode) _ t).1) none refl (sym is ∙ h))
     (λ t.
     let is : missing here.mode bs at ≡ Err (BadChar at) = rw t refl in
     let same : ◌≡◌ {A = Result Found LexFault} (Err (BadChar at)) (Err fault) = sym is ∙ h in

@@ -1,11 +1,12 @@
 -- Where blanks and tokens end, a text may be cut.
-use Rattle.std.proofs.Common.{◌≡◌, ◌<◌, ◌≤◌, ◌+◌, ◌-◌, ℕ, zero, suc, Bool, true, false, [], ◌∷◌, length, take, drop, get_or, refl, sym, ap, ◌∙◌, subst, arith, Option, Some, None, length-drop, get_or-drop}
+use Rattle.std.proofs.Common.{◌≡◌, ◌<◌, ◌≤◌, ◌+◌, ◌-◌, ℕ, zero, suc, Bool, true, false, [], ◌∷◌, length, take, drop, get_or, refl, sym, ap, ◌∙◌, subst, arith, Option, Some, None, length-drop, get_or-drop, eqb-true}
 use Rattle.std.specs.Prelude.{◌==◌, ◌&&◌, ◌||◌, not, if◌then◌else◌, nat_lt, nat_eq, IsUtf8, IsCharBoundary, codes}
 use Rattle.std.specs.List.{list_all, prefix_len}
 use Rattle.std.specs.Cmp.Lexicographic.{pointwise}
 use Rattle.std.specs.Char.{is_ascii_lowercase, is_ascii_digit, encode_utf8}
 use Rattle.std.proofs.lemmas.Bool.Decides.{nat_tests}
 use Rattle.std.proofs.lemmas.List.Folds.{length-prefix_len}
+use Rattle.std.proofs.lemmas.Bool.{and_parts}
 use Rattle.ur_lexer.specs.declared.pieces.Found.{Found}
 use Rattle.ur_lexer.specs.declared.state.Mode.{Mode}
 use Rattle.ur_lexer.specs.declared.state.Mode.TheVariants.{Code, Tag, Text}
@@ -18,7 +19,7 @@ use Rattle.ur_lexer.specs.Markup.{run, run_from, closing, closing_of, closing_en
 use Rattle.ur_lexer.specs.Ahead.{at_space}
 use Rattle.ur_lexer.specs.Where.{Where}
 use Rattle.ur_lexer.specs.Lexing.{IsBlank, a_comment, a_space, IsToken, Stands, lower_name, upper_name, attribute_name, integer, string, symbol, tag_symbol, opening, closing_tag, brace, run_of_text}
-use Rattle.ur_lexer.proofs.Front.Choices.{either, mapped, by_test, by_option, and_left, and_right}
+use Rattle.ur_lexer.proofs.Front.Choices.{either, mapped, by_test, by_option}
 use Rattle.ur_lexer.proofs.Readings.Cuts.{cut_behind, name_ascii, tag_ascii, attribute_ascii, digit_ascii}
 use Rattle.ur_lexer.proofs.Steps.EntitySteps.{entity_ends}
 use Rattle.ur_lexer.proofs.Front.Runs.{passes_at}
@@ -93,10 +94,10 @@ first_space now [] h = absurd (none now h)
     none Code h = cc
     none Tag h = cc
     none Text h = cc
-first_space now (b ∷ bs) h = (omega arith, and_right _ _ h)
+first_space now (b ∷ bs) h = (omega arith, (and_parts _ _ h).1)
 
 pub blank_cut : (now : Mode) (bs : Bytes) (n : ℕ) → IsUtf8 bs → IsBlank now bs n → (0 < n) × IsCharBoundary bs n
-blank_cut now bs n u (a_comment c e) = cut_at 41 bs n (omega arith) u (comment_ends bs n (and_right _ (opens bs) c) e)
+blank_cut now bs n u (a_comment c e) = cut_at 41 bs n (omega arith) u (comment_ends bs n (and_parts _ (opens bs) c).1 e)
 blank_cut now bs n u (a_space c s e) =
     let f = first_space now bs s in
     let a = space_byte (get_or bs 0 0) f.1 in
@@ -117,9 +118,6 @@ escape_closed : {P : Type 0} (o : Option ℕ) (q : Quoted) (c : Bytes) (n : ℕ)
 escape_closed None q c n h go = cc
 escape_closed (Some x) q c n h go = behind_closed (encode_utf8 x) 2 q c n h go
 
-is_byte : (b n : ℕ) → (b == n) ≡ true → b ≡ n
-is_byte b n h = grind (arith, nat_tests)
-
 one_closed : (c : Bytes) (n : ℕ) → closed [] 1 ≡ closed c n → 1 ≡ n
 one_closed c n h = cc
 
@@ -127,11 +125,11 @@ quoted_ends : (bs : Bytes) (c : Bytes) (n : ℕ) → quoted bs ≡ closed c n �
 quoted_ends [] c n h = cc
 quoted_ends (b ∷ []) c n h =
     chosen (b == 34) (closed [] 1) open_ (closed c n) h
-    (λ t q. subst (λ (k : ℕ). EndsAt 34 (b ∷ []) k) (one_closed c n q) (record { some = omega arith; within = omega arith; byte = is_byte b 34 t }))
+    (λ t q. subst (λ (k : ℕ). EndsAt 34 (b ∷ []) k) (one_closed c n q) (record { some = omega arith; within = omega arith; byte = eqb-true b 34 t }))
     (λ t q. cc)
 quoted_ends (b ∷ d ∷ bs) c n h =
     chosen (b == 34) _ _ (closed c n) h
-    (λ t q. subst (λ (k : ℕ). EndsAt 34 (b ∷ d ∷ bs) k) (one_closed c n q) (record { some = omega arith; within = omega arith; byte = is_byte b 34 t }))
+    (λ t q. subst (λ (k : ℕ). EndsAt 34 (b ∷ d ∷ bs) k) (one_closed c n q) (record { some = omega arith; within = omega arith; byte = eqb-true b 34 t }))
     (λ t q. chosen (b == 92) _ _ (closed c n) q
     (λ t q. escape_closed (escaped d) (quoted bs) c n q (λ f m e same. two_more 34 b d bs m n (quoted_ends bs f m e) same))
     (λ t q. behind_closed (b ∷ []) 1 (quoted (d ∷ bs)) c n q (λ f m e same. one_more 34 b (d ∷ bs) m n (quoted_ends (d ∷ bs) f m e) same)))
@@ -146,7 +144,7 @@ closing_end_at : {P : Type 0} (bs : Bytes) (end : ℕ) → closing_end bs ≡ So
 closing_end_at bs end h go =
     let k = prefix_len is_space bs in
     either (nat_lt k (length bs) && (get_or bs k 0 == 62)) _ _ end h
-    (λ t q. go k (some_number (k + 1) end q) (below k (length bs) (and_left _ _ t)) (is_byte (get_or bs k 0) 62 (and_right (nat_lt k (length bs)) _ t)))
+    (λ t q. go k (some_number (k + 1) end q) (below k (length bs) (and_parts _ _ t).0) (eqb-true (get_or bs k 0) 62 (and_parts (nat_lt k (length bs)) _ t).1))
     (λ t q. cc)
   where
     below : (a b : ℕ) → nat_lt a b ≡ true → a < b
@@ -282,7 +280,7 @@ token_cut here bs token u is = stands_cut here bs token u is.longest.some is.lon
 -- ---- nothing empty is read
 
 pub blank_some : (now : Mode) (bs : Bytes) (n : ℕ) → IsBlank now bs n → 0 < n
-blank_some now bs n (a_comment c e) = (comment_ends bs n (and_right _ (opens bs) c) e).some
+blank_some now bs n (a_comment c e) = (comment_ends bs n (and_parts _ (opens bs) c).1 e).some
 blank_some now bs n (a_space c s e) = omega (arith, e)
 
 pub stands_some : (here : Where) (bs : Bytes) (token : Found) → Stands here bs token → 0 < token.len

@@ -6,7 +6,8 @@ use Rattle.std.specs.Cmp.Lexicographic.{same_text}
 use Rattle.std.specs.Char.{is_ascii_digit}
 use Rattle.std.proofs.lemmas.Bool.Decides.{nat_tests}
 use Rattle.std.proofs.lemmas.List.Sums.{prefix_len-le-length}
-use Rattle.ur_lexer.proofs.Front.Choices.{either, mapped, and_left, and_right}
+use Rattle.std.proofs.lemmas.Bool.{and_parts}
+use Rattle.ur_lexer.proofs.Front.Choices.{either, mapped}
 use Rattle.ur_lexer.specs.Bytes.{Bytes}
 use Rattle.ur_lexer.specs.Entities.{entities, named, numbered, numeric, entity}
 
@@ -44,13 +45,13 @@ named_ends (entry ∷ table) bs e a h =
     either (starts_with nat_eq bs entry.0) (Some (entry.1, length entry.0)) (named table bs) e h
     (λ t q.
     let same : (entry.1, length entry.0) ≡ e = cc in
-    let ends = ended entry.0 (and_left _ _ a) in
+    let ends = ended entry.0 (and_parts _ _ a).0 in
     subst (λ (x : ℕ × ℕ). Ends bs x) same (record {
       some = ends.0;
       within = front_length bs entry.0 t;
       last = front_reads_at bs entry.0 (length entry.0 - 1) (omega (arith, ends.0)) t ∙ ends.1;
     }))
-    (λ t q. named_ends table bs e (and_right _ _ a) q)
+    (λ t q. named_ends table bs e (and_parts _ _ a).1 q)
 
 tests : (n m x : ℕ) → ((n == 0) || (n == m) || not (x == 59)) ≡ false → (n ≡ m → ⊥) × (x ≡ 59)
 tests n m x h = (λ e. grind (arith, nat_tests), grind (arith, nat_tests))

@@ -1,15 +1,16 @@
 use Rattle.std.proofs.Common.{◌∙◌, map, ap}
 use Rattle.table_rows.specs.Wires.{tagged}
 use Rattle.table_rows.specs.View.{wire_tree, wires_tree, parts_from}
+use Rattle.table_rows.proofs.Lists.{tagged_tree}
 use Rattle.link_router.specs.Scoped.{scope_shapes, part_tree}
-use Rattle.link_router.proofs.Closing.{closed_made, listed_first, listed_nothing, record_tree, held_tree}
+use Rattle.link_router.proofs.Closing.{closed_made, listed_first, listed_nothing, record_tree}
 use Rattle.link_router.proofs.Moves.{field_next, field_last, held_done}
 use Rattle.link_router.proofs.Onward.{framed}
 use Rattle.link_router.proofs.reader.handed_up.Goals as goal
 
 pub returns-in_ok-held-in-Held : goal.returns-in_ok-held-in-Held
 returns-in_ok-held-in-Held c D ps =
-    framed c.in-Held.is (held_done c.in-Held.name (wire_tree c.args.wire) _ (held_tree c.in-Held.name c.in_ok-held-in-Held.held ∙ ap (λ w. tagged c.in-Held.name (wire_tree w)) c.in_ok-held-in-Held.ensures.ok))
+    framed c.in-Held.is (held_done c.in-Held.name (wire_tree c.args.wire) _ (tagged_tree c.in-Held.name c.in_ok-held-in-Held.held ∙ ap (λ w. tagged c.in-Held.name (wire_tree w)) c.in_ok-held-in-Held.ensures.ok))
 
 pub returns-in-None : goal.returns-in-None
 returns-in-None c D ps =
