@@ -8,7 +8,7 @@ use Rattle.kind_rules.specs.Compared.{comparison_units, normal_forms}
 use Rattle.core_typing.specs.Compared.{Alike}
 use Rattle.judgements.specs.Comparisons.{same_forms, are_alike}
 
-forms_same : (a b : Cn) (r : Result (Cn × Cn) Flw) → normal_forms comparison_units a b ≡ r → same_forms r ≡ true → Alike a b
+pub forms_same : (a b : Cn) (r : Result (Cn × Cn) Flw) → normal_forms comparison_units a b ≡ r → same_forms r ≡ true → Alike a b
 forms_same a b (Err w) e h = absurd (cc)
 forms_same a b (Ok mn) e h = record { form = mn.0; forms = e ∙ ap (λ (z : Cn). Ok (mn.0, z)) (sym (cn_eq_same mn.0 mn.1 h)) }
 

@@ -25,7 +25,7 @@ built_none : (ds : List Dt) (bs : List Bool) (k : ℕ) (t : Cn) (b : Bool) → b
 unfolding built
 built_none ds bs k t b h = cc
 
-built_more : (r : ℕ) (ds : List Dt) (bs : List Bool) (k : ℕ) (t : Cn) → built (suc r) ds bs k t ≡ type_by (built r ds bs k) ds bs k (normal_of t)
+pub built_more : (r : ℕ) (ds : List Dt) (bs : List Bool) (k : ℕ) (t : Cn) → built (suc r) ds bs k t ≡ type_by (built r ds bs k) ds bs k (normal_of t)
 unfolding built
 built_more r ds bs k t = refl
 

@@ -1,7 +1,7 @@
 //! Names, labels, and what their kinds are.
 use con_nodes::left_beside;
 use con_terms::{Con, Kind, Place, SymTable, copy_kind};
-use kind_rules::flaw::Differing;
+use kind_rules::Differing;
 use name_scopes::{ElabFault, KnownType, Scope, path_text};
 use plain_tree::{Label, Path};
 use std::alloc::{AllocError, Global};

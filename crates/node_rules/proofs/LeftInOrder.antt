@@ -1,18 +1,16 @@
 -- What is left of the pieces of a row in order is in order.
-use Rattle.std.proofs.Common.{◌≡◌, ℕ, Bool, true, false, if◌then◌else◌, List, [], ◌∷◌, ◌++◌, Option, Some, None, option_map, IfSome, refl, sym, ap, ◌∙◌, subst, subst₂, append-nil}
+use Rattle.std.proofs.Common.{◌≡◌, ℕ, if◌then◌else◌, List, ◌∷◌, ◌++◌, Option, Some, None, IfSome, refl, sym, ap, ◌∙◌, subst, append-nil, []}
 use Rattle.con_terms.specs.Trees.{Kd, types, Cn, var, basic, arrow, poly, guarded, record_of, app, lambda, unit_con, name, row, cat, map_of, tuple, proj, Prs, no_pairs, pair}
 use Rattle.con_terms.specs.View.{con_tree}
 use Rattle.con_terms.specs.declared.con.Con.{Con}
 use Rattle.con_terms.specs.declared.con.Cons.{Cons}
 use Rattle.row_normal.specs.Ordered.{before, insert, sorted, leading_fields, after_leading, glued, joined, first_kind, ordered, ordered_pieces, field_pieces, ordered_all}
-use Rattle.row_normal.specs.SameTree.{cn_eq}
-use Rattle.row_normal.proofs.SameTrees.{cn_eq_same}
 use Rattle.row_normal.proofs.StepEqual.{some_is}
 use Rattle.row_normal.proofs.Arranged.{Above, Up, arranged, arranged_up}
 use Rattle.row_normal.proofs.Swapped.{before_ranks, sorted_is}
-use Rattle.row_normal.proofs.Stable.{InOrder, ordered_twice, pieces_sorted}
+use Rattle.row_normal.proofs.Stable.{InOrder, ordered_twice, pieces_sorted, joined_kind}
 use Rattle.core_typing.specs.Compared.{field_of, without_piece, without_pieces}
-use Rattle.core_typing.proofs.Normal.{Picks, picks_first, picks_later, field_picks}
+use Rattle.core_typing.proofs.Normal.{Picks, picks_first, picks_later, field_picks, piece_equal as piece_picks}
 use Rattle.core_terms.specs.View.{maybe_con}
 use Rattle.told_faults.specs.Computed.{record_row}
 use Rattle.judgements.specs.View.{cons_view, maybe_cons, maybe_taken}
@@ -75,10 +73,6 @@ pieces_joined k [] = refl
 pieces_joined k (p ∷ []) = sym (append-nil (ordered_pieces p))
 pieces_joined k (p ∷ q ∷ ps) = ap (λ l. ordered_pieces p ++ l) (pieces_joined k (q ∷ ps))
 
-joined_kind : (j k : Kd) (p : Cn) (ps : List Cn) → joined j (p ∷ ps) ≡ joined k (p ∷ ps)
-joined_kind j k p [] = refl
-joined_kind j k p (q ∷ ps) = ap (cat p) (joined_kind j k q ps)
-
 any_kind : (j k : Kd) (p : Cn) (ps : List Cn) → joined j (glued (p ∷ ps)) ≡ joined k (glued (p ∷ ps))
 any_kind j k (row l (pair (name s) v no_pairs)) ps = joined_kind j k (row l (pair (name s) v (leading_fields l ps))) (after_leading l ps)
 any_kind j k p ps = joined_kind j k p ps
@@ -125,15 +119,6 @@ field_glues : (r n v : Cn) (rest : List Cn) → ordered r ≡ r → field_of n (
 field_glues r n v rest h e =
     let k : Picks (ordered_pieces r) _ rest = field_picks n (ordered_pieces r) v rest e in
     stays_glued rest (picks_all k (all_in_order r)) (picks_up k (up_of r h))
-
-piece_picks : (c : Cn) (ps qs : List Cn) → without_piece c ps ≡ Some qs → Picks ps c qs
-piece_picks c [] qs e = cc
-piece_picks c (p ∷ ps) qs e = by_test (cn_eq p c) (without_piece c ps) refl (λ rs. piece_picks c ps rs) e
-  where
-    by_test : (b : Bool) (o : Option (List Cn)) → cn_eq p c ≡ b → ((rs : List Cn) → o ≡ Some rs → Picks ps c rs) → (if b then Some ps else option_map (λ rs. p ∷ rs) o) ≡ Some qs → Picks (p ∷ ps) c qs
-    by_test true o h later e = subst₂ (λ x rs. Picks (p ∷ ps) x rs) (cn_eq_same p c h) (some_is ps qs e) picks_first
-    by_test false None h later e = cc
-    by_test false (Some rs) h later e = subst (λ x. Picks (p ∷ ps) c x) (some_is (p ∷ rs) qs e) (picks_later (later rs refl))
 
 part_glues : (cs ps rs : List Cn) → without_pieces cs ps ≡ Some rs → AllInOrder ps → Up before ps → Glues rs
 part_glues [] ps rs e a u = subst Glues (some_is ps rs e) (stays_glued ps a u)

@@ -16,7 +16,7 @@ use core_terms::ConOrigin;
 use judgements::{
     Globals, Here, Judged, flaw_at, has_kind, meets, normal_of, other_form, put, wants,
 };
-use kind_rules::flaw::Flaw;
+use kind_rules::Flaw;
 use std::alloc::{AllocError, Global};
 use type_faults::{Fault, first};
 use type_makers::{arrow, empty_row, guarded, poly};

@@ -11,7 +11,7 @@ use con_terms::{Con, Kind, Pairs, Place, Sym, copy_pairs};
 use judgements::{
     Globals, Here, Judged, copied_kind, faulty, flaw_at, folder_named, has_kind, typed,
 };
-use kind_rules::flaw::Flaw;
+use kind_rules::Flaw;
 use std::alloc::{AllocError, Global};
 use type_faults::{Fault, Name, first};
 use type_makers::{applied, row_kind};

@@ -10,7 +10,7 @@ ghost use Rattle.type_faults.specs.View.{maybe_fault};
 
 use con_terms::{Con, Kind, Place};
 use judgements::{Globals, Here, Judged, copied, copied_kind, flaw_at, wants};
-use kind_rules::flaw::Flaw;
+use kind_rules::Flaw;
 use std::alloc::{AllocError, Global};
 use type_faults::{Fault, first};
 use type_makers::{arrow, poly};

@@ -11,9 +11,7 @@ ghost use Rattle.node_rules.specs.Functions as computed;
 
 use con_terms::{Con, Kind};
 use judgements::{Here, Judged, copied};
-use kind_rules::compare::{Sides, normal_sides};
-use kind_rules::flaw::{Differing, Flaw, Two, both};
-use kind_rules::kinding::judge;
+use kind_rules::{Differing, Flaw, Sides, Two, both, judge, normal_sides};
 use std::alloc::{AllocError, Global};
 use type_makers::guarded;
 

@@ -10,7 +10,7 @@ ghost use Rattle.type_faults.specs.View.{maybe_fault};
 
 use con_terms::{Con, Kind, Place};
 use judgements::{Globals, Here, Judged, flaw_at, has_kind, wants};
-use kind_rules::flaw::Flaw;
+use kind_rules::Flaw;
 use std::alloc::{AllocError, Global};
 use type_faults::{Fault, first};
 

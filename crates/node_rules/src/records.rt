@@ -13,7 +13,7 @@ ghost use Rattle.type_faults.specs.View.{maybe_fault};
 
 use con_terms::{Con, Kind, Pair, Pairs, Place};
 use judgements::{Globals, Here, Judged, copied, flaw_at, has_kind};
-use kind_rules::flaw::Flaw;
+use kind_rules::Flaw;
 use std::alloc::{AllocError, Global};
 use type_faults::{Fault, first};
 use type_makers::{record, row_kind};

@@ -7,6 +7,7 @@ use Rattle.con_terms.specs.Trees.{Kd}
 use Rattle.core_typing.specs.Accepts.{FoldersDiffer}
 use Rattle.core_typing.specs.Declarations.{Distinct}
 use Rattle.program_forms.specs.Symbols.{KindsDiffer, SymbolsDiffer}
+use Rattle.std.proofs.lemmas.Option.{same_Some as same}
 
 pub all_from : {X : Type 0} (P : X → Type 0) (xs : List X) → AllByRecursion P xs → All P xs
 all_from P [] h k d l = absurd (omega (arith, l))
@@ -28,15 +29,12 @@ pub all_left : {X : Type 0} (P : X → Type 0) (xs ys : List X) → AllByRecursi
 all_left P [] ys h = tt
 all_left P (x ∷ xs) ys h = (h.0, all_left P xs ys h.1)
 
-same : {X : Type 0} (x y : X) → Some x ≡ Some y → x ≡ y
-same x y h = cc
-
 pub at_place : {X : Type 0} (P : X → Type 0) (xs : List X) (i : ℕ) (x : X) → AllByRecursion P xs → slice_get xs i ≡ Some x → P x
 at_place P [] i x h e = absurd cc
 at_place P (y ∷ ys) zero x h e = subst P (same y x e) h.0
 at_place P (y ∷ ys) (suc i) x h e = at_place P ys i x h.1 e
 
-plus_one : (i : ℕ) → suc i ≡ i + 1
+pub plus_one : (i : ℕ) → suc i ≡ i + 1
 plus_one i = omega arith
 
 pub folders_differ : (fs : List (Kd × ℕ)) → KindsDiffer fs → FoldersDiffer fs

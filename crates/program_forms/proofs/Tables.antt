@@ -1,14 +1,13 @@
 -- Texts at the same places.
-use Rattle.std.proofs.Common.{◌≡◌, ℕ, suc, ◌<◌, ◌+◌, Bool, true, false, not, cond, nat_lt, ◌||◌, if◌then◌else◌, List, [], ◌∷◌, ◌++◌, length, take, get_or, Some, None, is_some, position, refl, ap, sym, subst, ◌∙◌, arith}
+use Rattle.std.proofs.Common.{◌≡◌, ℕ, suc, ◌<◌, ◌+◌, Bool, true, false, not, cond, nat_lt, ◌||◌, if◌then◌else◌, List, [], ◌∷◌, ◌++◌, length, take, get_or, Some, None, is_some, refl, ap, sym, subst, ◌∙◌, arith}
 use Rattle.std.specs.List.{list_any, IsDistinct, position_or_len}
 use Rattle.std.specs.Str.{bytes_eq}
 use Rattle.std.proofs.Math.Seq.{take-suc}
 use Rattle.con_terms.specs.Laws.{SymbolsAreTexts}
 use Rattle.con_terms.specs.Symbols.{Table, put_text, symbol_of}
 use Rattle.core_typing.specs.Accepts.{TextsDiffer}
-
-plus_one : (i : ℕ) → suc i ≡ i + 1
-plus_one i = omega arith
+use Rattle.con_terms.proofs.Tables.{any_place}
+use Rattle.program_forms.proofs.Lists.{plus_one}
 
 pub taken : (xs ys : List (List ℕ)) (i : ℕ) (x y : List ℕ) → take i xs ≡ take i ys → i < length xs → i < length ys
     → x ≡ get_or xs i x → y ≡ get_or ys i y → x ≡ y → take (i + 1) xs ≡ take (i + 1) ys
@@ -29,9 +28,6 @@ further false c n m h = grind (arith, h)
 within_any : {X : Type 0} (p : X → Bool) (xs : List X) → nat_lt (position_or_len p xs) (length xs) ≡ list_any p xs
 within_any p [] = refl
 within_any p (x ∷ xs) = further (p x) (list_any p xs) (position_or_len p xs) (length xs) (within_any p xs)
-
-any_place : {X : Type 0} (p : X → Bool) (xs : List X) → is_some (position p xs) ≡ list_any p xs
-any_place p xs = is_some_cond (nat_lt (position_or_len p xs) (length xs)) (position_or_len p xs) ∙ within_any p xs
 
 -- a text that isn't there goes last
 put_last : (t : Table) (text : List ℕ) → symbol_of t text ≡ None → put_text t text ≡ t ++ text ∷ []
