@@ -25,16 +25,14 @@ use con_terms::con::Con;
 use con_terms::kind::Kind;
 use con_terms::symbol::Sym;
 use core_terms::{
-    ConDecl, Constructor, Constructors, Datatype, Decl, Named, NamedList, Program, Symbols, Thing,
+    ConDecl, Constructor, Constructors, Datatype, Decl, MOST_NESTED, Named, NamedList, Program,
+    Symbols, Thing,
 };
 use judgements::{Globals, Here, Judged, copied, kind_flaw, under_con, with_locals};
 use match_cover::declared::copy_datatype;
 use node_rules::{Found, and_then_found, none_yet};
 use std::alloc::{AllocError, Global};
 use type_faults::{Fault, Twice};
-
-/// How deep terms may be: as deep as they are built.
-const LEVELS: u32 = 1_200;
 
 /// What is found where nothing but perhaps a fault is told.
 fn told_alone(own: Option<Fault>) -> Found
@@ -65,7 +63,7 @@ fn with_type(alloc: Global, g: &mut Globals, n: &Named) -> Result<(), AllocError
 fn judge_named(alloc: Global, g: &Globals, s: &Here, n: &Named) -> Result<Judged, AllocError>
     ensures { IfOk result (λ r. Judges (sc_view g.now s.now) (named_tree n.now).4 (judged_tree r)) }
 {
-    judge(alloc, g, s, &n.exp, LEVELS)
+    judge(alloc, g, s, &n.exp, MOST_NESTED)
 }
 
 /// `val x : t = e`, whose type then stands among those of the values.
@@ -114,7 +112,7 @@ fn with_values(
     ensures top { OnOk result (IsTop (globals_view g.new) s.now) }
 {
     with_types(alloc, g, ns)?;
-    let found = judge_names(alloc, g, s, ns, LEVELS)?;
+    let found = judge_names(alloc, g, s, ns, MOST_NESTED)?;
     with_names(alloc, g, s, ns, found, none_yet())
 }
 

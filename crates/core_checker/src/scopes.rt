@@ -16,7 +16,7 @@ use crate::lists::{with_named, with_names};
 use crate::places::named_con;
 use con_terms::con::Con;
 use con_terms::place::Place;
-use core_terms::{Named, NamedList, Pat};
+use core_terms::{MOST_NESTED, Named, NamedList, Pat};
 use judgements::{
     Bound, Globals, Here, Judged, copied, flaw_at, under_guard, with_local, with_locals,
 };
@@ -25,9 +25,6 @@ use node_rules::{Found, guard_sides, none_yet};
 use pattern_rules::binding;
 use std::alloc::{AllocError, Global};
 use type_faults::Fault;
-
-/// How deep patterns may be nested.
-const NESTED: u32 = 1_200;
 
 /// A scope that a term opens, or what is told of that which opens it. Contracts see it as `inner_tree`.
 #[derive(Drop)]
@@ -47,7 +44,7 @@ pub fn under_pattern(
     ensures { IfOk result
         (λ r. inner_tree g.now r ≡ pattern_scope (sc_view g.now s.now) (pat_tree q.now) (con_tree t.now)) }
 {
-    match binding(alloc, g, s, q, t, &s.locals, NESTED)? {
+    match binding(alloc, g, s, q, t, &s.locals, MOST_NESTED)? {
         Bound::Bad(f) => Ok(Inner::Bad(f)),
         Bound::Under(locals) => Ok(Inner::Under(with_locals(s, locals)?)),
     }

@@ -22,7 +22,7 @@ mutual
 
   pattern_form_twice : (f : Pf) → strip_pattern_form (strip_pattern_form f) ≡ strip_pattern_form f
   pattern_form_twice any = refl
-  pattern_form_twice (binds x w t) = ap (binds x w) (type_twice w t)
+  pattern_form_twice (binds x t) = refl
   pattern_form_twice (is_number z) = refl
   pattern_form_twice (is_text t) = refl
   pattern_form_twice (is_bare s j) = refl

@@ -49,7 +49,7 @@ abbrev mutual
 
   pub PatternFormFits : ℕ → Pf → Type 0
   PatternFormFits n any = Unit {0}
-  PatternFormFits n (binds x w t) = (x < n) × NamesThere n t
+  PatternFormFits n (binds x t) = (x < n) × NamesThere n t
   PatternFormFits n (is_number z) = FitsSigned w64 z
   PatternFormFits n (is_text t) = IsUtf8 t
   PatternFormFits n (is_bare s j) = Unit {0}

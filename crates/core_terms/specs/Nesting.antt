@@ -9,7 +9,7 @@ abbrev mutual
 
   pub pattern_form_nesting : Pf → ℕ
   pattern_form_nesting any = 0
-  pattern_form_nesting (binds x w t) = 0
+  pattern_form_nesting (binds x t) = 0
   pattern_form_nesting (is_number z) = 0
   pattern_form_nesting (is_text t) = 0
   pattern_form_nesting (is_bare s j) = 0

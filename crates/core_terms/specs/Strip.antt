@@ -27,7 +27,7 @@ abbrev mutual
 
   pub strip_pattern_form : Pf → Pf
   strip_pattern_form any = any
-  strip_pattern_form (binds x w t) = binds x w (if_written w t)
+  strip_pattern_form (binds x t) = binds x unit_con
   strip_pattern_form (is_number z) = is_number z
   strip_pattern_form (is_text t) = is_text t
   strip_pattern_form (is_bare s j) = is_bare s j

@@ -17,8 +17,8 @@ mutual
   pub data Pf : Type 0 where
     -- _
     any : Pf
-    -- a variable: its name, whether its type was written, and its type
-    binds : ℕ → Bool → Cn → Pf
+    -- a variable: its name, and its type, which no source has there: (x : t) is an annotated pattern
+    binds : ℕ → Cn → Pf
     is_number : ℤ → Pf
     is_text : List ℕ → Pf
     -- a constructor: its datatype's symbol and its place in it, alone or with a pattern of what it holds

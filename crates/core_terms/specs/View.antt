@@ -51,7 +51,7 @@ pat_fields_from (f ∷ fs) = pat_field f.0 f.1 f.2 (pat_fields_from fs)
 
 abbrev pub pat_form_step : PatForm-F Pf Pt PatFieldTree Pfs → Pf
 pat_form_step PatForm-F.Any = any
-pat_form_step (PatForm-F.Bind x w t) = binds x.number w (con_tree t)
+pat_form_step (PatForm-F.Bind x t) = binds x.number (con_tree t)
 pat_form_step (PatForm-F.Int z) = is_number z
 pat_form_step (PatForm-F.Words t) = is_text t
 pat_form_step (PatForm-F.Build s j None) = is_bare s.number j
@@ -164,7 +164,7 @@ form_step (Form-F.Words t) = text t
 form_step (Form-F.Build s j) = built s.number j
 form_step (Form-F.Fn p t e) = fn (pat_tree p.value) (con_tree t) e.value
 form_step (Form-F.FnCon x i w k e) = fn_con x.number i w (kind_tree k) e.value
-form_step (Form-F.FnGuard c d e) = fn_guard (con_tree c) (con_tree d) e.value
+form_step (Form-F.FnGuard c d e) = fn_guard (con_tree c.value) (con_tree d.value) e.value
 form_step (Form-F.Call f s is) = call f.value s is
 form_step (Form-F.Let ls e) = let_in ls e.value
 form_step (Form-F.Case e b bs) = case_of e.value b.value.0 b.value.1 b.value.2 bs

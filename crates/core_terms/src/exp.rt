@@ -63,7 +63,7 @@ pub enum Form {
     /// `fn [x :: k] => e`, or `fn [x ::: k] => e` where the first flag is true
     FnCon(Sym, bool, bool, Kind, Box<Exp>),
     /// `fn [c ~ d] => e`
-    FnGuard(Con, Con, Box<Exp>),
+    FnGuard(Box<Con>, Box<Con>, Box<Exp>),
     /// A term with what it is applied to.
     Call(Box<Exp>, Sigil, Items),
     /// `let .. in e end`

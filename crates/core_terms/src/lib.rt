@@ -9,6 +9,7 @@ pub mod exp;
 pub mod laws;
 pub mod lists;
 pub mod names;
+pub mod nesting;
 pub mod pat;
 pub mod program;
 pub mod program_lists;
@@ -23,6 +24,7 @@ pub use exp::{
     InputName, Item, Items, Literal, Local, Locals, Named, NamedList, Node, Nodes, Sigil,
 };
 pub use names::Symbols;
+pub use nesting::MOST_NESTED;
 pub use pat::{Pat, PatField, PatFields, PatForm, Pats};
 pub use program::{Exports, FolderName, Folders, ForeignName, Foreigns, Program, Rule, Rules};
 pub use sql::Skeleton;

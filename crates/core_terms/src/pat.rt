@@ -16,8 +16,8 @@ pub struct Pat {
 pub enum PatForm {
     /// `_`
     Any,
-    /// A variable: its name, whether its type was written, and its type.
-    Bind(Sym, bool, Con),
+    /// A variable: its name, and its type, which no source has there: `(x : t)` is `Typed`.
+    Bind(Sym, Con),
     Int(i64),
     Words(Text),
     /// A constructor: its datatype's symbol, its place in it, and the pattern of what it holds.

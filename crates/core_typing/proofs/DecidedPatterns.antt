@@ -27,11 +27,11 @@ FieldsDec G fs ps = ((rs : List Cn) × (ts : List Cn) × PatFieldsFound G fs ps 
 abbrev pub Kds : Sc → Cn → Kd → Type 0
 Kds G c k = HasKind G c k ⊎ ((p : Place) → Told (LacksKind G p c k))
 
-pub binds_dec : (G : Sc) (p : Place) (x : ℕ) (w : Bool) (u t : Cn) → Kds G u types → Compared t u → PatDec G (pattern p (binds x w u)) t
-binds_dec G p x w u t (inr l) c = let (f, h) = l p in inr (f, pat.bad_kind h)
-binds_dec G p x w u t (inl k) (alike a) = inl (u ∷ [], binds_one k a)
-binds_dec G p x w u t (inl k) (differs m n d) = inr (fault.mismatch p G.called m n, pat.other_type k d)
-binds_dec G p x w u t (inl k) (is_large l) = inr (fault.too_large p, pat.large_type k l)
+pub binds_dec : (G : Sc) (p : Place) (x : ℕ) (u t : Cn) → Kds G u types → Compared t u → PatDec G (pattern p (binds x u)) t
+binds_dec G p x u t (inr l) c = let (f, h) = l p in inr (f, pat.bad_kind h)
+binds_dec G p x u t (inl k) (alike a) = inl (u ∷ [], binds_one k a)
+binds_dec G p x u t (inl k) (differs m n d) = inr (fault.mismatch p G.called m n, pat.other_type k d)
+binds_dec G p x u t (inl k) (is_large l) = inr (fault.too_large p, pat.large_type k l)
 
 pub number_dec : (G : Sc) (p : Place) (z : ℤ) (t : Cn) → Compared t int_type → PatDec G (pattern p (is_number z)) t
 number_dec G p z t (alike a) = inl ([], number_binds a)
@@ -109,7 +109,7 @@ field_dec G p n q fs ps (inl k) (Some m) e go on = by_field (field_of m ps) refl
 mutual
   pub pattern_dec : (G : Sc) (q : Pt) (t : Cn) → PatDec G q t
   pattern_dec G (pattern p any) t = inl ([], any_binds)
-  pattern_dec G (pattern p (binds x w u)) t = binds_dec G p x w u t (kinding G u types) (compare t u)
+  pattern_dec G (pattern p (binds x u)) t = binds_dec G p x u t (kinding G u types) (compare t u)
   pattern_dec G (pattern p (is_number z)) t = number_dec G p z t (compare t int_type)
   pattern_dec G (pattern p (is_text w)) t = text_dec G p w t (compare t string_type)
   pattern_dec G (pattern p (is_bare s j)) t = bare_dec G p s j t (data_at G s j t)

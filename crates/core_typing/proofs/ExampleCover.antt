@@ -1,5 +1,5 @@
 -- That a match on an option which takes Some alone misses None, and has nothing else at fault before.
-use Rattle.std.proofs.Common.{◌≡◌, ℕ, Bool, false, List, [], ◌∷◌, Some, refl, arith, sym, subst, ◌⊎◌, inl, inr}
+use Rattle.std.proofs.Common.{◌≡◌, ℕ, false, List, [], ◌∷◌, Some, refl, arith, sym, subst, ◌⊎◌, inl, inr}
 use Rattle.con_terms.specs.Trees.{Cn, var}
 use Rattle.con_terms.specs.declared.place.Place.{Place}
 use Rattle.kind_rules.specs.Compared.{comparison_units}
@@ -49,7 +49,7 @@ unfolding comparison_units
 none_missed = record { shape = of_bare refl refl refl refl; missed = refl }
 
 -- faults of the pattern stand in it
-held_pattern_at : {G : Sc} {x : ℕ} {w : Bool} {t u : Cn} {f : Fault} → PatFault G (pattern (byte 46) (binds x w u)) t f → at f ≡ byte 46
+held_pattern_at : {G : Sc} {x : ℕ} {t u : Cn} {f : Fault} → PatFault G (pattern (byte 46) (binds x u)) t f → at f ≡ byte 46
 held_pattern_at (bad_kind h) = kind_at h
 held_pattern_at (other_type k d) = refl
 held_pattern_at (large_type k l) = refl

@@ -13,7 +13,7 @@ abbrev mutual
 
   pub pattern_form_replaced : (ℕ → ℕ → Cn) → Pf → ℕ → Pf
   pattern_form_replaced f any d = any
-  pattern_form_replaced f (binds x w t) d = binds x w (replaced f t d)
+  pattern_form_replaced f (binds x t) d = binds x (replaced f t d)
   pattern_form_replaced f (is_number z) d = is_number z
   pattern_form_replaced f (is_text t) d = is_text t
   pattern_form_replaced f (is_bare s j) d = is_bare s j

@@ -34,7 +34,7 @@ abbrev mutual
 
   pub form_depth : Pf → ℕ
   form_depth any = 0
-  form_depth (binds x w t) = 0
+  form_depth (binds x t) = 0
   form_depth (is_number z) = 1
   form_depth (is_text t) = 1
   form_depth (is_bare s j) = 1
@@ -119,7 +119,7 @@ abbrev mutual
 
   pub form_takes : Pf → Shp → Bool
   form_takes any s = true
-  form_takes (binds x w t) s = true
+  form_takes (binds x t) s = true
   form_takes (is_number z) (number_shape y) = int_eq z y
   form_takes (is_number z) _ = false
   form_takes (is_text t) (text_shape w) = bytes_eq t w

@@ -54,7 +54,7 @@ basis_scope = top_scope [] basis_datatypes [] 0
 
 -- x : t
 abbrev pub called_x : Cn → Pt
-called_x t = pattern (byte 0) (binds x_name true t)
+called_x t = pattern (byte 0) (binds x_name t)
 
 -- 1 / 0
 abbrev pub one_by_zero : Ex
@@ -135,7 +135,7 @@ clashing = node (byte 8) false (concat
 
 -- case o of Some n => n, behind fun f (o : option int) : int =
 abbrev pub some_pattern : Pt
-some_pattern = pattern (byte 41) (is_holding option_name 1 (pattern (byte 46) (binds x_name false int_type)))
+some_pattern = pattern (byte 41) (is_holding option_name 1 (pattern (byte 46) (binds x_name int_type)))
 
 abbrev pub without_none : Ex
 without_none = node (byte 31) false (case_of (node (byte 36) false (bound 0)) (byte 41) some_pattern (node (byte 51)

@@ -40,10 +40,10 @@ mutual
     -- _
     any_binds : {G : Sc} {p : Place} {t : Cn} → PatFound G (pattern p any) t []
     -- x : u, where u :: Type, and t is u
-    binds_one : {G : Sc} {p : Place} {x : ℕ} {w : Bool} {t u : Cn}
+    binds_one : {G : Sc} {p : Place} {x : ℕ} {t u : Cn}
         → HasKind G u types
         → Alike t u
-        → PatFound G (pattern p (binds x w u)) t (u ∷ [])
+        → PatFound G (pattern p (binds x u)) t (u ∷ [])
     -- 1, where t is int
     number_binds : {G : Sc} {p : Place} {z : ℤ} {t : Cn}
         → Alike t int_type
@@ -97,19 +97,19 @@ mutual
   -- what is at fault in a pattern at a type
   pub data PatFault : Sc → Pt → Cn → Fault → Type 0 where
     -- x : u, where u hasn't the kind Type
-    bad_kind : {G : Sc} {p : Place} {x : ℕ} {w : Bool} {t u : Cn} {f : Fault}
+    bad_kind : {G : Sc} {p : Place} {x : ℕ} {t u : Cn} {f : Fault}
         → LacksKind G p u types f
-        → PatFault G (pattern p (binds x w u)) t f
+        → PatFault G (pattern p (binds x u)) t f
     -- x : u, where u :: Type, and t is another
-    other_type : {G : Sc} {p : Place} {x : ℕ} {w : Bool} {t u m n : Cn}
+    other_type : {G : Sc} {p : Place} {x : ℕ} {t u m n : Cn}
         → HasKind G u types
         → Differ t u m n
-        → PatFault G (pattern p (binds x w u)) t (mismatch p G.called m n)
+        → PatFault G (pattern p (binds x u)) t (mismatch p G.called m n)
     -- x : u, where u :: Type, and comparing t and u is too large
-    large_type : {G : Sc} {p : Place} {x : ℕ} {w : Bool} {t u : Cn}
+    large_type : {G : Sc} {p : Place} {x : ℕ} {t u : Cn}
         → HasKind G u types
         → Large t u
-        → PatFault G (pattern p (binds x w u)) t (too_large p)
+        → PatFault G (pattern p (binds x u)) t (too_large p)
     -- 1, where t isn't int
     no_number : {G : Sc} {p : Place} {z : ℤ} {t m n : Cn}
         → Differ t int_type m n

@@ -1,6 +1,6 @@
 -- Which patterns have which types, and the types of what they bind, the innermost first.
 -- The Ur/Web Manual, "Pattern Typing".
-use Rattle.std.specs.Prelude.{◌≡◌, ℕ, ℤ, Bool, true, false, List, [], ◌∷◌, ◌++◌, length, Some, None, slice_get}
+use Rattle.std.specs.Prelude.{◌≡◌, ℕ, ℤ, true, false, List, [], ◌∷◌, ◌++◌, length, Some, None, slice_get}
 use Rattle.con_terms.specs.Trees.{types, names, Cn, basic, record_of, cat, Prs, no_pairs, pair}
 use Rattle.con_terms.specs.Equal.{Equal}
 use Rattle.con_terms.specs.Kinded.{Kinded}
@@ -30,9 +30,9 @@ mutual
     -- _ : t, which binds nothing
     of_any : {G : Sc} {p : Place} {t : Cn} → PatTyped A G (pattern p any) t []
     -- x : t, where t :: Type, which binds x
-    of_binds : {G : Sc} {p : Place} {x : ℕ} {w : Bool} {t : Cn}
+    of_binds : {G : Sc} {p : Place} {x : ℕ} {t : Cn}
         → Kinded G.kinds t types
-        → PatTyped A G (pattern p (binds x w t)) t (t ∷ [])
+        → PatTyped A G (pattern p (binds x t)) t (t ∷ [])
     -- 1 : int
     of_number : {G : Sc} {p : Place} {z : ℤ} → PatTyped A G (pattern p (is_number z)) int_type []
     -- "a" : string

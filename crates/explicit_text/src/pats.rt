@@ -34,7 +34,7 @@ fn holding<'a>(
 /// `(p : t)`
 fn typed_pat<'a>(tasks: &mut Tasks<'a>, inner: &'a Pat, of: &'a Con) -> Result<(), AllocError> {
     match &inner.form {
-        PatForm::Bind(bound, _, _) => binder(tasks, *bound, of),
+        PatForm::Bind(bound, _) => binder(tasks, *bound, of),
         _ => tasks.first(&[
             word("("),
             pat(inner, true),
@@ -77,7 +77,7 @@ pub fn print_pat<'a>(
 ) -> Result<(), AllocError> {
     match &printed.form {
         PatForm::Any => tasks.before(word("_")),
-        PatForm::Bind(bound, _, of) => binder(tasks, *bound, of),
+        PatForm::Bind(bound, of) => binder(tasks, *bound, of),
         PatForm::Int(number) => tasks.before(Task::Leaf(Leaf::Integer(*number))),
         PatForm::Words(text) => tasks.before(Task::Leaf(Leaf::Text(text.as_str()))),
         PatForm::Build(symbol, place, None) => {

@@ -1,5 +1,5 @@
 -- The terms of the examples, with their types, rule by rule.
-use Rattle.std.proofs.Common.{◌≡◌, ℕ, ◌<◌, Bool, true, false, [], ◌∷◌, Some, None, refl, arith}
+use Rattle.std.proofs.Common.{◌≡◌, ℕ, ◌<◌, Bool, true, [], ◌∷◌, Some, None, refl, arith}
 use Rattle.std.specs.Prelude.{codes}
 use Rattle.con_terms.specs.Trees.{Kd, types, Cn, var, basic, arrow, poly, app, unit_con}
 use Rattle.core_terms.specs.declared.exp.ConOrigin.TheVariants.{Inserted}
@@ -193,7 +193,7 @@ x_of_int =
     (head_alone refl))
 
 abbrev identity : Ex
-identity = said (fn (pattern anywhere (binds x_name false int_type)) int_type (said (bound 0)))
+identity = said (fn (pattern anywhere (binds x_name int_type)) int_type (said (bound 0)))
 
 identity_of_int : guided guards_hold identity_source with_function (whole (arrow int_type int_type)) identity
     (arrow int_type int_type)

@@ -101,7 +101,7 @@ FunctionThatWaits = Guided with_function nothing_ever
     (exp 0 (exp_call (named (codes "f"))
     (more_items (item_term identity_source) (more_items (item_term (digit 3)) no_items))))
     (said (call (said (bound 0)) Plain (with_con anywhere Inserted int_type
-    (with_term (said (fn (pattern anywhere (binds x_name false int_type)) int_type (said (bound 0))))
+    (with_term (said (fn (pattern anywhere (binds x_name int_type)) int_type (said (bound 0))))
     (with_term three core.no_items))))) int_type
 
 -- <xml>a</xml> stands in a body

@@ -83,7 +83,7 @@ mutual
     -- x, which has the type of the value that is matched
     a_variable : {at x : ℕ} {w : Words} {t : Cn} {p : Place}
         (name : is_text h.names.tables x w ≡ true)
-        → PatGuided h (pat at (pat_bind w)) t (pattern p (binds x false t)) (t ∷ [])
+        → PatGuided h (pat at (pat_bind w)) t (pattern p (binds x t)) (t ∷ [])
     -- 3, -3
     a_number : {at n : ℕ} {minus : Bool} {t : Cn} {p : Place}
         → PatGuided h (pat at (pat_int minus n)) t (pattern p (is_number (number_of minus n))) []

@@ -31,7 +31,7 @@ abbrev mutual
 
   pub SamePatternForm : Pf → Pf → Type 0
   SamePatternForm any any = Unit {0}
-  SamePatternForm (binds x w t) (binds y v u) = (x ≡ y) × (w ≡ v) × SameType w t u
+  SamePatternForm (binds x t) (binds y u) = (x ≡ y) × Equal t u
   SamePatternForm (is_number y) (is_number z) = y ≡ z
   SamePatternForm (is_text s) (is_text t) = s ≡ t
   SamePatternForm (is_bare s i) (is_bare t j) = (s ≡ t) × (i ≡ j)

@@ -29,7 +29,7 @@ abbrev mutual
 
   pub inside_form : Pf → Here → Here
   inside_form any h = h
-  inside_form (binds x w t) h = inside_binder x t h
+  inside_form (binds x t) h = inside_binder x t h
   inside_form (is_number z) h = h
   inside_form (is_text t) h = h
   inside_form (is_bare s j) h = h

@@ -81,7 +81,7 @@ fn under_pattern<'p>(alloc: Global, h: At<'p>, p: &Pat) -> Result<At<'p>, AllocE
     ensures { IfOk result (λ r. at_view r ≡ inside.inside (pat_tree p.now) (at_view h.entry)) }
 {
     match &p.form {
-        PatForm::Bind(x, _, t) => inside_binder(alloc, &h, *x, t),
+        PatForm::Bind(x, t) => inside_binder(alloc, &h, *x, t),
         PatForm::Build(_, _, held) => match held {
             None => Ok(h),
             Some(inner) => under_pattern(alloc, h, inner),

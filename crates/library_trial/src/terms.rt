@@ -1,6 +1,6 @@
 //! Terms as deep as they are built.
 use con_terms::Place;
-use core_terms::{Exp, Form, Item, Items, Sigil};
+use core_terms::{Exp, Form, Item, Items, MOST_NESTED, Sigil};
 use std::alloc::{AllocError, Global};
 
 /// The term `7` at this byte.
@@ -36,6 +36,6 @@ fn nested(alloc: Global, levels: u32) -> Result<Box<Exp>, AllocError> {
 
 /// A term as deep as terms are built.
 pub fn the_deepest_terms_are_let_go(alloc: Global) -> Result<bool, AllocError> {
-    let term = nested(alloc, 1200)?;
+    let term = nested(alloc, MOST_NESTED)?;
     Ok(term.place.at == 1)
 }

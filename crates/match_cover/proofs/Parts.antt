@@ -18,7 +18,7 @@ mutual
 
   form_tells : (f : Pf) (s : Shp) → passes (form_test f) s ≡ form_takes f s
   form_tells any s = refl
-  form_tells (binds x w t) s = refl
+  form_tells (binds x t) s = refl
   form_tells (is_number z) leaf = refl
   form_tells (is_number z) (number_shape y) = refl
   form_tells (is_number z) (text_shape w) = refl

@@ -29,7 +29,7 @@ abbrev mutual
 
   pub form_test : Pf → Ts
   form_test any = anything
-  form_test (binds x w t) = anything
+  form_test (binds x t) = anything
   form_test (is_number z) = a_number z
   form_test (is_text t) = a_text t
   form_test (is_bare s j) = a_bare s j

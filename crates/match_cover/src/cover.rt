@@ -21,13 +21,10 @@ use crate::rows::{Row, Rows, no_columns, one_test, row_before};
 use crate::shapes::Shapes;
 use crate::test::{pattern_depth, test_of};
 use con_terms::{Con, copy_con};
-use core_terms::{Datatype, Decls, Pat, Pats};
+use core_terms::{Datatype, Decls, MOST_NESTED, Pat, Pats};
 use std::alloc::{AllocError, Global};
 use std::rc::Rc;
 use type_faults::Shape;
-
-/// How deep patterns may be nested.
-const NESTED: u32 = 1200;
 
 /// How many columns may stand one after another.
 const COLUMNS: u32 = 3000;
@@ -60,7 +57,7 @@ impl Asked {
         ensures { OnOk result ((ps : List Pt) → Asks ps (rows_view self.old.rows) self.old.depth
             → Asks (ps ++ pat_tree p.now ∷ []) (rows_view self.new.rows) self.new.depth) }
     {
-        let depth = pattern_depth(p, NESTED)?;
+        let depth = pattern_depth(p, MOST_NESTED)?;
         let row = row_of(alloc, p)?;
         self.rows.items.push(row)?;
         if self.depth < depth {
@@ -74,7 +71,7 @@ impl Asked {
 fn row_of(alloc: Global, p: &Pat) -> Result<Rc<Row>, AllocError>
     ensures { IfOk result (λ r. row_view r.value ≡ (asked_by (pat_tree p.now) ∷ []) ∷ []) }
 {
-    let cell = one_test(alloc, test_of(alloc, p, NESTED)?)?;
+    let cell = one_test(alloc, test_of(alloc, p, MOST_NESTED)?)?;
     row_before(alloc, cell, no_columns(alloc)?)
 }
 

@@ -74,7 +74,7 @@ fn form_test(alloc: Global, f: &PatForm, room: u32) -> Result<Test, AllocError>
     ensures { IfOk result (λ t. test_tree t ≡ meant.form_test (pat_form_tree f.now)) }
 {
     match f {
-        PatForm::Any | PatForm::Bind(_, _, _) => Ok(Test::Anything),
+        PatForm::Any | PatForm::Bind(_, _) => Ok(Test::Anything),
         PatForm::Int(z) => Ok(Test::Number(*z)),
         PatForm::Words(t) => Ok(Test::Words(t.copy(alloc)?)),
         PatForm::Build(s, j, None) => Ok(Test::Bare(*s, *j)),
@@ -128,7 +128,7 @@ fn form_depth(f: &PatForm, room: u32) -> Result<u32, AllocError>
     ensures small { IfOk result (λ d. d ≤ room + 1) }
 {
     match f {
-        PatForm::Any | PatForm::Bind(_, _, _) => Ok(0),
+        PatForm::Any | PatForm::Bind(_, _) => Ok(0),
         PatForm::Int(_) | PatForm::Words(_) | PatForm::Build(_, _, None) => Ok(1),
         PatForm::Build(_, _, Some(q)) => Ok(pattern_depth(q, room)? + 1),
         PatForm::Rec(fs, _) => Ok(fields_depth(fs, room)? + 1),

@@ -61,9 +61,9 @@ unless_binds : (G : Sc) (L ts : List Cn) (q : Pt) (p : Place) (t u : Cn) (o : Op
 unless_binds G L ts q p t u None h go = record { bound = ts; found = go (alike_of G p t u h); is = refl }
 unless_binds G L ts q p t u (Some f) h go = tt
 
-variable_binds : (G : Sc) (L : List Cn) (p : Place) (x : ℕ) (w : Bool) (t u : Cn) (r : Result Kd Flw) → judged_at G.kinds u types ≡ r → BindsAs G L (pattern p (binds x w u)) t (bind_one G L p t u r)
-variable_binds G L p x w t u (Err f) h = tt
-variable_binds G L p x w t u (Ok k) h = unless_binds G L (u ∷ []) (pattern p (binds x w u)) p t u (wants G p t u) refl (λ a. binds_one (kind_of G u types k h) a)
+variable_binds : (G : Sc) (L : List Cn) (p : Place) (x : ℕ) (t u : Cn) (r : Result Kd Flw) → judged_at G.kinds u types ≡ r → BindsAs G L (pattern p (binds x u)) t (bind_one G L p t u r)
+variable_binds G L p x t u (Err f) h = tt
+variable_binds G L p x t u (Ok k) h = unless_binds G L (u ∷ []) (pattern p (binds x u)) p t u (wants G p t u) refl (λ a. binds_one (kind_of G u types k h) a)
 
 -- constructors
 bare_binds_as : (G : Sc) (L : List Cn) (p : Place) (s j : ℕ) (t : Cn) (d : Da) → DataIs G s j t d → BindsAs G L (pattern p (is_bare s j)) t (bare_binding G L p d)
@@ -175,7 +175,7 @@ mutual
 
   form_binds : (G : Sc) (L : List Cn) (p : Place) (f : Pf) (t : Cn) → BindsAs G L (pattern p f) t (form_binding G L p f t)
   form_binds G L p any t = record { bound = []; found = any_binds; is = refl }
-  form_binds G L p (binds x w u) t = variable_binds G L p x w t u (judged_at G.kinds u types) refl
+  form_binds G L p (binds x u) t = variable_binds G L p x t u (judged_at G.kinds u types) refl
   form_binds G L p (is_number z) t = unless_binds G L [] (pattern p (is_number z)) p t int_type (wants G p t int_type) refl (λ a. number_binds a)
   form_binds G L p (is_text w) t = unless_binds G L [] (pattern p (is_text w)) p t string_type (wants G p t string_type) refl (λ a. text_binds a)
   form_binds G L p (is_bare s j) t = bare_binds_as G L p s j t (data_at G p s j t) (data_is G p s j t)

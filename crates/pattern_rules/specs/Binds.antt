@@ -162,7 +162,7 @@ abbrev mutual
 
   pub form_binding : Sc → List Cn → Place → Pf → Cn → Bd
   form_binding G L p any t = bind_these L
-  form_binding G L p (binds x w u) t = bind_one G L p t u (judged_at G.kinds u types)
+  form_binding G L p (binds x u) t = bind_one G L p t u (judged_at G.kinds u types)
   form_binding G L p (is_number z) t = bind_unless L (wants G p t int_type)
   form_binding G L p (is_text w) t = bind_unless L (wants G p t string_type)
   form_binding G L p (is_bare s j) t = bare_binding G L p (data_at G p s j t)

@@ -118,7 +118,7 @@ pub fn binding(
     let p = q.place;
     match &q.form {
         PatForm::Any => Ok(Bound::Under(locals.clone()?)),
-        PatForm::Bind(_, _, u) => bind_one(alloc, g, s, p, t, u, locals),
+        PatForm::Bind(_, u) => bind_one(alloc, g, s, p, t, u, locals),
         PatForm::Int(_) => literal_binding(alloc, g, s, p, t, int_type(), locals),
         PatForm::Words(_) => literal_binding(alloc, g, s, p, t, string_type(), locals),
         PatForm::Build(d, j, holds) => match holds {

@@ -19,7 +19,7 @@ abbrev mutual
 
   pub pattern_form_then : Pf → List Place → List Place
   pattern_form_then any more = more
-  pattern_form_then (binds x w t) more = more
+  pattern_form_then (binds x t) more = more
   pattern_form_then (is_number z) more = more
   pattern_form_then (is_text t) more = more
   pattern_form_then (is_bare s j) more = more

@@ -307,7 +307,7 @@ fn put_pattern_form<'a>(parts: &mut Vec<MadePart<'a>>, f: &'a PatForm) -> Result
 {
     match f {
         PatForm::Any
-        | PatForm::Bind(_, _, _)
+        | PatForm::Bind(_, _)
         | PatForm::Int(_)
         | PatForm::Words(_)
         | PatForm::Build(_, _, None) => Ok(()),

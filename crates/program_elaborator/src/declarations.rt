@@ -4,10 +4,9 @@ use crate::folders::{Done, Task, declared, perform};
 use crate::groups::of_group;
 use crate::places::{bounded_copy, named, written_type};
 use crate::terms::{Env, Terms, TypedTerm};
-use crate::texts::LEVELS;
 use crate::types::{of_con, of_datatype};
 use con_terms::Place;
-use core_terms::{Decl, Named, Symbols};
+use core_terms::{Decl, MOST_NESTED, Named, Symbols};
 use name_scopes::{ElabFault, Tops};
 use plain_tree::Local;
 use std::alloc::{AllocError, Global};
@@ -24,10 +23,10 @@ impl<'a, T: Terms> Task for ValueTask<'a, T> {
 
     fn make(&self, alloc: Global, env: &Env) -> Result<Box<Named>, ElabFault> {
         let source = self.source;
-        let written = written_type(alloc, env, &source.con, LEVELS)?;
+        let written = written_type(alloc, env, &source.con, MOST_NESTED)?;
         let TypedTerm { exp, con } = self
             .terms
-            .term(alloc, env, written.as_ref(), &source.exp, LEVELS)?;
+            .term(alloc, env, written.as_ref(), &source.exp, MOST_NESTED)?;
         let con = written.unwrap_or(con);
         Ok(named(alloc, env, &source.name, source.con.is_some(), con, exp)?)
     }

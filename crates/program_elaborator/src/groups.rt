@@ -3,9 +3,8 @@ use crate::fault::{Refusal, memory};
 use crate::folders::{Done, Task, declared, perform};
 use crate::places::{bounded_copy, named, written_type};
 use crate::terms::{Env, Terms, TypedTerm};
-use crate::texts::LEVELS;
 use con_terms::{Con, copy_con};
-use core_terms::{Decl, NamedList, Symbols};
+use core_terms::{Decl, MOST_NESTED, NamedList, Symbols};
 use name_scopes::{ElabFault, Tops};
 use std::alloc::{AllocError, Global};
 
@@ -29,9 +28,9 @@ fn type_told<T: Terms>(
     env: &Env,
     source: &plain_tree::Named,
 ) -> Result<MaybeType, ElabFault> {
-    let con = match written_type(alloc, env, &source.con, LEVELS)? {
+    let con = match written_type(alloc, env, &source.con, MOST_NESTED)? {
         Some(con) => Some(con),
-        None => terms.signature(alloc, env, &source.exp, LEVELS)?,
+        None => terms.signature(alloc, env, &source.exp, MOST_NESTED)?,
     };
     Ok(MaybeType { con })
 }
@@ -86,7 +85,7 @@ impl<'a, T: Terms> Task for TermsTask<'a, T> {
             let told = told_type(alloc, self.types, i)?;
             let TypedTerm { exp, con } = self
                 .terms
-                .term(alloc, env, told.as_ref(), &source.exp, LEVELS)?;
+                .term(alloc, env, told.as_ref(), &source.exp, MOST_NESTED)?;
             let con = told.unwrap_or(con);
             let value = named(alloc, env, &source.name, source.con.is_some(), con, exp)?;
             built.push(Box::into_inner(value))?;

@@ -1,6 +1,7 @@
 //! The symbols of all texts that modules write as names. They are made before anything is looked up.
 //! `room` is the number of levels that are left; none left counts as want of memory.
 use con_terms::SymTable;
+use core_terms::MOST_NESTED;
 use plain_tree::{
     Arg, Args, Attributes, Branch, Branches, Con, ConFields, ConForm, Cons, Datatype, Decl, Exp,
     Fields, Form, Item, Items, Label, Link, Links, Local, Locals, Named, NamedList, Node, Nodes,
@@ -9,9 +10,6 @@ use plain_tree::{
 use std::alloc::{AllocError, Global};
 use table_rows::Text;
 use type_makers::basis_symbols;
-
-/// How deep the parts of a declaration may lie in one another.
-pub const LEVELS: u32 = 1_200;
 
 /// The symbols of the basis, and of all names that these modules write.
 pub fn all_texts(alloc: Global, trees: &Vec<Plain>) -> Result<SymTable, AllocError> {
@@ -34,10 +32,10 @@ fn put(names: &mut SymTable, text: &Text) -> Result<(), AllocError> {
 /// The names of a declaration. What isn't built yet needs none.
 fn of_decl(alloc: Global, names: &mut SymTable, decl: &Decl) -> Result<(), AllocError> {
     match decl {
-        Decl::Value(local) => of_local(alloc, names, local, LEVELS),
+        Decl::Value(local) => of_local(alloc, names, local, MOST_NESTED),
         Decl::Con(declared) => {
             put(names, &declared.name.text)?;
-            of_con(alloc, names, &declared.con, LEVELS)
+            of_con(alloc, names, &declared.con, MOST_NESTED)
         }
         Decl::Datatype(datatype) => of_datatype(alloc, names, datatype),
         Decl::Table(_) | Decl::Sequence(_, _) | Decl::Cookie(_) => Ok(()),
@@ -53,7 +51,7 @@ fn of_datatype(alloc: Global, names: &mut SymTable, datatype: &Datatype) -> Resu
     for i in 0..datatype.builders.items.len() {
         let builder = &datatype.builders.items[i];
         put(names, &builder.name.text)?;
-        maybe_con(alloc, names, &builder.holds, LEVELS)?;
+        maybe_con(alloc, names, &builder.holds, MOST_NESTED)?;
     }
     Ok(())
 }

@@ -3,9 +3,8 @@ use crate::fault::{Refusal, memory};
 use crate::folders::{Done, Task, declared, on_heap, perform};
 use crate::places::{place_of, symbol_of, symbols_of, type_of};
 use crate::terms::Env;
-use crate::texts::LEVELS;
 use con_terms::{Con, Kind, Sym, copy_con, copy_kind, fits};
-use core_terms::{ConDecl, Constructor, Constructors, Datatype, Decl, Symbols};
+use core_terms::{ConDecl, Constructor, Constructors, Datatype, Decl, MOST_NESTED, Symbols};
 use name_scopes::{ElabFault, Tops};
 use plain_tree::{DatatypeBuilder, TypeDecl};
 use std::alloc::{AllocError, Global};
@@ -38,7 +37,7 @@ impl<'a> Task for ConTask<'a> {
             env.file,
             &source.con,
             wanted,
-            LEVELS,
+            MOST_NESTED,
         )?;
         let name = symbol_of(env, &source.name)?;
         let kind = written_or(alloc, &source.kind, found)?;
@@ -118,7 +117,7 @@ fn constructor(
 ) -> Result<Constructor, ElabFault> {
     let holds = match &source.holds {
         None => None,
-        Some(c) => Some(type_of(alloc, under, c, LEVELS)?),
+        Some(c) => Some(type_of(alloc, under, c, MOST_NESTED)?),
     };
     Ok(Constructor {
         place: place_of(under, source.name.at),

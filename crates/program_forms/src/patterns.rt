@@ -25,7 +25,7 @@ fn pattern_form_fits(count: usize, f: &PatForm) -> bool
         PatForm::Any => true,
         PatForm::Int(z) => number_fits(z),
         PatForm::Words(t) => text_fits(t),
-        PatForm::Bind(x, _, t) => (x.number as usize) < count && names_there(count, t),
+        PatForm::Bind(x, t) => (x.number as usize) < count && names_there(count, t),
         PatForm::Build(_, _, None) => true,
         PatForm::Build(_, _, Some(q)) => pattern_fits(count, q),
         PatForm::Rec(fs, _) => pattern_fields_fit(count, fs),

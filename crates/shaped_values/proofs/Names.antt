@@ -60,7 +60,7 @@ mutual
 
   each_name_in : (P Q : Cn → Type 0) → ((n : Cn) → P n → Q n) → (f : Pf) → EachNameIn P f → EachNameIn Q f
   each_name_in P Q go any h = tt
-  each_name_in P Q go (binds x w t) h = tt
+  each_name_in P Q go (binds x t) h = tt
   each_name_in P Q go (is_number z) h = tt
   each_name_in P Q go (is_text t) h = tt
   each_name_in P Q go (is_bare s j) h = tt

@@ -42,7 +42,7 @@ mutual
 
   form_suffices : (cs : List Cn) (f : Pf) (v : V) (b : ℕ) → EachNameIn IsLiteral f → matched_form cs f v b ≢ more
   form_suffices cs any v b h = λ e. cc
-  form_suffices cs (binds x w t) v b h = λ e. cc
+  form_suffices cs (binds x t) v b h = λ e. cc
   form_suffices cs (is_number z) (of_number y) b h = if_not (int_eq z y) b
   form_suffices cs (is_number z) _ b h = λ e. cc
   form_suffices cs (is_text t) (of_text w) b h = if_not (bytes_eq t w) b

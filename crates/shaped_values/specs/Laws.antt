@@ -25,7 +25,7 @@ abbrev mutual
 
   pub EachNameIn : (Cn → Type 0) → Pf → Type 0
   EachNameIn holds any = Unit {0}
-  EachNameIn holds (binds x w t) = Unit {0}
+  EachNameIn holds (binds x t) = Unit {0}
   EachNameIn holds (is_number z) = Unit {0}
   EachNameIn holds (is_text t) = Unit {0}
   EachNameIn holds (is_bare s j) = Unit {0}

@@ -11,12 +11,9 @@ ghost use Rattle.site_routes.specs.View.{element_tree, targets_view};
 
 use core_terms::{
     AttrName, Attribute, Attributes, Branch, Branches, Decl, Decls, Element, Exp, Exports, Exps,
-    Field, Fields, Form, Item, Items, Local, Locals, Named, NamedList, Node, Nodes,
+    Field, Fields, Form, Item, Items, Local, Locals, MOST_NESTED, Named, NamedList, Node, Nodes,
 };
 use std::alloc::{AllocError, Global};
-
-/// How deep terms may be nested.
-const NESTED: u32 = 1200;
 
 /// For each value whether a link calls it, and whether an action does.
 #[derive(Drop)]
@@ -442,8 +439,8 @@ fn mark_decl(d: &Decl, targets: &mut Targets) -> Result<(), AllocError>
         ≡ mark_all (decl_targets (tree.decl_tree d.now)) (targets_view targets.old)) }
 {
     match d {
-        Decl::Val(_, n) => mark_term(&n.exp, targets, NESTED),
-        Decl::ValRec(_, ns) => mark_named(ns, targets, NESTED),
+        Decl::Val(_, n) => mark_term(&n.exp, targets, MOST_NESTED),
+        Decl::ValRec(_, ns) => mark_named(ns, targets, MOST_NESTED),
         _ => Ok(()),
     }
 }

@@ -1,5 +1,5 @@
 -- A pattern of the source doesn't tell the types of its variables, so that it doesn't matter whether they are left.
-use Rattle.std.proofs.Common.{◌≡◌, Bool, true, false, ◌&&◌, ℕ, suc, List, [], ◌∷◌, length, map, drop, refl, ap, sym}
+use Rattle.std.proofs.Common.{◌≡◌, Bool, false, ◌&&◌, ℕ, suc, List, [], ◌∷◌, length, map, drop, refl, ap, sym}
 use Rattle.std.proofs.Common.{◌∙◌}
 use Rattle.core_terms.specs.Lists.{pat_field_tree}
 use Rattle.core_terms.specs.Strip.{strip_pattern, strip_pattern_form, strip_pattern_fields}
@@ -33,8 +33,7 @@ mutual
 
   form_stripped : (s : Scope) (f : PatFormTree) (g : Pf) → reads_pat_form s f (strip_pattern_form g)
       ≡ reads_pat_form s f g
-  form_stripped s (pat_bind x) (binds y true t) = refl
-  form_stripped s (pat_bind x) (binds y false t) = refl
+  form_stripped s (pat_bind x) (binds y t) = refl
   form_stripped s (pat_holding b p) (is_holding d i q) = ap (λ r. is_builder s b d i && r) (reads_stripped s p q)
   form_stripped s (pat_rec fs more) (has_fields gs others) =
       ap (λ r. flag_eq more others && r) (fields_stripped s fs gs)
@@ -43,7 +42,7 @@ mutual
   form_stripped s _ (is_number z) = refl
   form_stripped s _ (is_text t) = refl
   form_stripped s _ (is_bare d i) = refl
-  form_stripped s f (binds y w t) = refl
+  form_stripped s f (binds y t) = refl
   form_stripped s f (is_holding d i q) = refl
   form_stripped s f (has_fields gs more) = refl
   form_stripped s f (annotated q t) = refl

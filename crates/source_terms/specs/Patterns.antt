@@ -29,7 +29,7 @@ abbrev mutual
   -- _
   reads_pat_form s pat_any any = true
   -- x
-  reads_pat_form s (pat_bind x) (binds y false t) = is_text s.tables y x
+  reads_pat_form s (pat_bind x) (binds y t) = is_text s.tables y x
   -- 3, -3
   reads_pat_form s (pat_int minus n) (is_number z) = int_eq z (number_of minus n)
   -- "text"

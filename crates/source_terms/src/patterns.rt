@@ -45,7 +45,7 @@ fn reads(alloc: Global, s: &Here<'_>, p: &plain_tree::Pat, q: &Pat) -> Result<bo
     match &p.form {
         plain_tree::PatForm::Any => Ok(matches!(&q.form, PatForm::Any)),
         plain_tree::PatForm::Bind(x) => match &q.form {
-            PatForm::Bind(y, false, _) => is_text(s, *y, x),
+            PatForm::Bind(y, _) => is_text(s, *y, x),
             _ => Ok(false),
         },
         plain_tree::PatForm::Int(negative, digits) => match &q.form {

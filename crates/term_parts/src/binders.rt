@@ -59,7 +59,6 @@ pub fn around_guard(
         copy_con(alloc, &right)?,
         con,
     )?;
-    let (left, right) = (Box::into_inner(left), Box::into_inner(right));
     let exp = node(alloc, place, Form::FnGuard(left, right, exp))?;
     Ok(on_heap(alloc, Typed { exp, con: t })?)
 }

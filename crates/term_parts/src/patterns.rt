@@ -240,7 +240,7 @@ fn variable<'a>(
     let con = copy_con(alloc, t)?;
     bound.push(Bound { name, con })?;
     let con = copy_con(alloc, t)?;
-    made(alloc, place, PatForm::Bind(symbol, false, con))
+    made(alloc, place, PatForm::Bind(symbol, con))
 }
 
 /// A constructor of a datatype with what it holds.

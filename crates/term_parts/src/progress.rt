@@ -1,5 +1,6 @@
 //! How far a term is: it ended, or it asks for a part before it goes on.
 use con_terms::{Con, Place};
+use core_terms::MOST_NESTED;
 use name_scopes::ElabFault;
 use open_terms::{
     Call, Core, Env, Outcome, Pending, Typed, Want, boxed_copy, number, on_heap, open_place, words,
@@ -132,6 +133,6 @@ pub fn below(room: u32) -> u32 {
 pub fn settled(outcome: Outcome<'_>) -> Result<Box<Typed>, ElabFault> {
     match outcome {
         Outcome::Done(typed) => Ok(typed),
-        Outcome::Later(pending) => Err(ElabFault::Unsolved(open_place(&pending, 1_200))),
+        Outcome::Later(pending) => Err(ElabFault::Unsolved(open_place(&pending, MOST_NESTED))),
     }
 }

@@ -79,17 +79,17 @@ pub no_kind : {G : Sc} (p : Place) {c : Cn} {k : Kd} {w : Flw} → HasKind G c k
 no_kind {G} p {c} {k} {w} h e = kind_out {G = G} {p = p} {c = c} {k = k} {f = flaw_at p G.called w} h (lacks e)
 
 -- variables
-binds_lacks : {G : Sc} {p : Place} {x : ℕ} {b : Bool} {t u : Cn} {w : Flw} {f : Fault} → judged_at G.kinds u types ≡ Err w → PatFault G (pattern p (binds x b u)) t f → LacksKind G p u types f
+binds_lacks : {G : Sc} {p : Place} {x : ℕ} {t u : Cn} {w : Flw} {f : Fault} → judged_at G.kinds u types ≡ Err w → PatFault G (pattern p (binds x u)) t f → LacksKind G p u types f
 binds_lacks e (pat.bad_kind l) = l
 binds_lacks {p = p} e (pat.other_type k d) = absurd (no_kind p k e)
 binds_lacks {p = p} e (pat.large_type k d) = absurd (no_kind p k e)
 
-binds_wants : {G : Sc} {p : Place} {x : ℕ} {b : Bool} {t u : Cn} {f : Fault} → HasKind G u types → PatFault G (pattern p (binds x b u)) t f → Wants G p t u f
+binds_wants : {G : Sc} {p : Place} {x : ℕ} {t u : Cn} {f : Fault} → HasKind G u types → PatFault G (pattern p (binds x u)) t f → Wants G p t u f
 binds_wants k (pat.bad_kind l) = absurd (kind_out k l)
 binds_wants k (pat.other_type h d) = other d
 binds_wants k (pat.large_type h d) = large d
 
-wants_binds : {G : Sc} {p : Place} {x : ℕ} {b : Bool} {t u : Cn} {f : Fault} → HasKind G u types → Wants G p t u f → PatFault G (pattern p (binds x b u)) t f
+wants_binds : {G : Sc} {p : Place} {x : ℕ} {t u : Cn} {f : Fault} → HasKind G u types → Wants G p t u f → PatFault G (pattern p (binds x u)) t f
 wants_binds k (other d) = pat.other_type k d
 wants_binds k (large d) = pat.large_type k d
 
@@ -97,12 +97,12 @@ unless_told : (G : Sc) (p : Place) (q : Pt) (t u : Cn) (L : List Cn) (o : Option
 unless_told G p q t u L None h there back = tt
 unless_told G p q t u L (Some f) h there back = picks_as (Wants G p t u) (PatFault G q t) (Some f) there back h
 
-variable_told : (G : Sc) (L : List Cn) (p : Place) (x : ℕ) (b : Bool) (t u : Cn) {r : Result Kd Flw} → Kindly G u types r → BadTold G (pattern p (binds x b u)) t (bind_one G L p t u r)
-variable_told G L p x b t u (unkind {w = w} e) =
-    picks_as (LacksKind G p u types) (PatFault G (pattern p (binds x b u)) t) (Some (flaw_at p G.called w))
+variable_told : (G : Sc) (L : List Cn) (p : Place) (x : ℕ) (t u : Cn) {r : Result Kd Flw} → Kindly G u types r → BadTold G (pattern p (binds x u)) t (bind_one G L p t u r)
+variable_told G L p x t u (unkind {w = w} e) =
+    picks_as (LacksKind G p u types) (PatFault G (pattern p (binds x u)) t) (Some (flaw_at p G.called w))
     (λ f l. pat.bad_kind l) (λ f y. binds_lacks e y) (picks_flaw G p u types (Err w) (unkind e))
-variable_told G L p x b t u (kindly k) =
-    unless_told G p (pattern p (binds x b u)) t u (u ∷ L) (wants G p t u) (picks_wants G p t u) (λ f y. wants_binds k y) (λ f y. binds_wants k y)
+variable_told G L p x t u (kindly k) =
+    unless_told G p (pattern p (binds x u)) t u (u ∷ L) (wants G p t u) (picks_wants G p t u) (λ f y. wants_binds k y) (λ f y. binds_wants k y)
 
 -- literals
 number_wants : {G : Sc} {p : Place} {z : ℤ} {t : Cn} {f : Fault} → PatFault G (pattern p (is_number z)) t f → Wants G p t int_type f
@@ -416,7 +416,7 @@ mutual
 
   form_bad : (G : Sc) (L : List Cn) (p : Place) (f : Pf) (t : Cn) → BadTold G (pattern p f) t (form_binding G L p f t)
   form_bad G L p any t = tt
-  form_bad G L p (binds x w u) t = variable_told G L p x w t u (kind_is G u types)
+  form_bad G L p (binds x u) t = variable_told G L p x t u (kind_is G u types)
   form_bad G L p (is_number z) t = unless_told G p (pattern p (is_number z)) t int_type L (wants G p t int_type) (picks_wants G p t int_type) (λ f y. wants_number y) (λ f y. number_wants y)
   form_bad G L p (is_text w) t = unless_told G p (pattern p (is_text w)) t string_type L (wants G p t string_type) (picks_wants G p t string_type) (λ f y. wants_text y) (λ f y. text_wants y)
   form_bad G L p (is_bare s j) t = bare_told G L p s j t (data_at G p s j t) (data_told G p s j t)

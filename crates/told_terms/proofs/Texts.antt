@@ -20,7 +20,7 @@ abbrev mutual
 
   pub form_texts : Pf → Words
   form_texts any = []
-  form_texts (binds x w t) = []
+  form_texts (binds x t) = []
   form_texts (is_number z) = []
   form_texts (is_text t) = t ∷ []
   form_texts (is_bare s j) = []
@@ -198,7 +198,7 @@ mutual
 
   form_as : (ws : Words) (f : Pf) → Within (form_texts f) ws → (s : Shp) → form_takes f (as_shape ws s) ≡ form_takes f s
   form_as ws any h s = refl
-  form_as ws (binds x w t) h s = refl
+  form_as ws (binds x t) h s = refl
   form_as ws (is_number z) h s = number_as ws z s
   form_as ws (is_text t) h s = text_as ws t s (h t (among_here t []))
   form_as ws (is_bare r i) h s = bare_as ws r i s
