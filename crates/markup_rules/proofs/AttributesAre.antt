@@ -1,5 +1,6 @@
 -- Attributes of which nothing is told are found.
 use Rattle.std.proofs.Common.{◌≡◌, Bool, true, false, ◌||◌, List, [], ◌∷◌, ◌++◌, Option, Some, None, refl, ap, subst}
+use Rattle.std.proofs.lemmas.Bool.{or_left as link_first}
 use Rattle.con_terms.specs.Trees.{Cn}
 use Rattle.con_terms.specs.declared.place.Place.{Place}
 use Rattle.xml_trees.specs.declared.source_name.TagName.{TagName}
@@ -117,11 +118,6 @@ by_type : (C : CoverAsked) (bs : List Bool) (G : Sc) (u : Cn) (g : TagName) (p :
     ((v : Cn) → j ≡ Some v → FoundBy C G e v) → has_type j ≡ true → told_at bs G (p, n, e) j o ≡ None → IsOne C G u g n e
 by_type C bs G u g p n e j None m k x h y = absurd (some_none y)
 by_type C bs G u g p n e j (Some t) m k x h y = by_given C bs G u t g p n e j m k x h y
-
--- where one of them is a link
-link_first : (a b : Bool) → a ≡ true → (a || b) ≡ true
-link_first true b h = refl
-link_first false b h = absurd (false_true h)
 
 pub attributes_are : (C : CoverAsked) (bs : List Bool) (G : Sc) (u : Cn) (g : TagName) (past : List AttributeTree) (r : At) (as' : Ats) (js : List Jd) → (has_link (attribute_list as') ≡ true → AreCarriers G.datatypes bs) → Given C G (attribute_terms as') js →
     (attributes_from bs G g u past r (attribute_list as') js).found ≡ true → (attributes_from bs G g u past r (attribute_list as') js).own ≡ None → AttributesFound C G u g as'

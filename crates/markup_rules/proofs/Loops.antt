@@ -2,6 +2,7 @@
 use Rattle.std.proofs.Common.{◌≡◌, ℕ, zero, suc, ◌+◌, ◌-◌, ◌<◌, ◌≤◌, Bool, true, false, ◌&&◌, ◌||◌, List, [], ◌∷◌, ◌++◌, length, take, drop, Option, Some, None, slice_get, refl, ap, sym, ◌∙◌, arith, drop-cons, drop_of_length-le, append_assoc}
 use Rattle.std.proofs.lemmas.List.{append-nil}
 use Rattle.std.proofs.lemmas.Option.{slice_get_within, get_or_from_slice_get}
+use Rattle.std.proofs.lemmas.Bool.{or_left as or_true}
 use Rattle.con_terms.specs.Trees.{Cn, cat}
 use Rattle.xml_trees.specs.declared.source_name.TagName.{TagName}
 use Rattle.xml_trees.specs.declared.source_name.AttrName.{AttrName}
@@ -44,10 +45,6 @@ terms_stop xs i x e h k =
 
 pub terms_end : (xs : List It) (i : ℕ) → length xs ≤ i → all_terms (drop i xs) ≡ all_terms xs → Some (length xs) ≡ term_count xs
 terms_end xs i h k = ap (counted xs) (ap all_terms (sym (ended xs i h)) ∙ k)
-
-or_true : (b c : Bool) → b ≡ true → (b || c) ≡ true
-or_true true c h = refl
-or_true false c h = cc
 
 or_false : (b c : Bool) → b ≡ false → (b || c) ≡ c
 or_false true c h = cc
