@@ -24,7 +24,7 @@ use Rattle.markup_rules.proofs.Basics.{some_none, false_true, and_left, and_righ
 use Rattle.markup_rules.proofs.LinksAre.{link_is}
 
 -- names
-same_self : (n : AttrName) → same_name n n ≡ true
+pub same_self : (n : AttrName) → same_name n n ≡ true
 same_self attr.Title = refl
 same_self attr.Link = refl
 same_self attr.Href = refl
@@ -56,7 +56,7 @@ has_attribute n no_attributes h = absurd (false_true h)
 has_attribute n (attribute p m e as') h = by_name p m n e as' (same_name m n) refl h (has_attribute n as')
 
 -- the last of some stands among them, and one of the first some among more
-stands_last : (past : List AttributeTree) (p : Place) (n : AttrName) (e : Ex) → stands_among n (past ++ (p, n, e) ∷ []) ≡ true
+pub stands_last : (past : List AttributeTree) (p : Place) (n : AttrName) (e : Ex) → stands_among n (past ++ (p, n, e) ∷ []) ≡ true
 stands_last [] p n e = ap (λ b. b || false) (same_self n)
 stands_last (a ∷ past) p n e = or_right (same_name a.1 n) (stands_among n (past ++ (p, n, e) ∷ [])) (stands_last past p n e)
 
@@ -64,7 +64,7 @@ or_more : (b c d : Bool) → (b || c) ≡ true → (c ≡ true → d ≡ true) �
 or_more true c d h x = refl
 or_more false c d h x = x h
 
-stands_more : (n : AttrName) (past more : List AttributeTree) → stands_among n past ≡ true → stands_among n (past ++ more) ≡ true
+pub stands_more : (n : AttrName) (past more : List AttributeTree) → stands_among n past ≡ true → stands_among n (past ++ more) ≡ true
 stands_more n [] more h = absurd (false_true h)
 stands_more n (a ∷ past) more h = or_more (same_name a.1 n) (stands_among n past) (stands_among n (past ++ more)) h (stands_more n past more)
 

@@ -62,7 +62,7 @@ held_none G no_nodes js o d h = (refl, h)
 held_none G (a_node b e xs) js o d h = absurd (none_some h)
 
 -- where it stands
-may_be_in : (w : Where) (c : Cn) → are_alike (context_row w false) c ≡ false → are_alike (context_row w true) c ≡ true → MayBeInForm w true
+pub may_be_in : (w : Where) (c : Cn) → are_alike (context_row w false) c ≡ false → are_alike (context_row w true) c ≡ true → MayBeInForm w true
 may_be_in in_html c h k = absurd (true_false (sym k ∙ h))
 may_be_in in_head c h k = absurd (true_false (sym k ∙ h))
 may_be_in in_body c h k = tt
