@@ -23,7 +23,7 @@ opened xs i x e =
     let h : i < length xs = slice_get_within xs i x e in
     drop-cons xs i x h ∙ ap (λ y. y ∷ drop (suc i) xs) (get_or_from_slice_get xs i x x e) ∙ ap (λ n. x ∷ drop n xs) (let p : suc i ≡ i + 1 = omega arith in p)
 
-taken_next : {X : Type 0} (xs : List X) (i : ℕ) (x : X) → slice_get xs i ≡ Some x → take (suc i) xs ≡ take i xs ++ x ∷ []
+pub taken_next : {X : Type 0} (xs : List X) (i : ℕ) (x : X) → slice_get xs i ≡ Some x → take (suc i) xs ≡ take i xs ++ x ∷ []
 taken_next [] i x e = cc
 taken_next (y ∷ ys) zero x e = let k : y ≡ x = cc in ap (λ z. z ∷ []) k
 taken_next (y ∷ ys) (suc i) x e = ap (λ zs. y ∷ zs) (taken_next ys i x e)
