@@ -2,5 +2,5 @@
 pub mod Rolled
 -- Terms with projections behind them, where there are some (for `with_links`).
 pub mod SomeLinks
--- A path that is read dot by dot is the longest one (for `read_dots`).
+-- A path that is read dot by dot is the longest one (for `longest`).
 pub mod LongestPaths
