@@ -1,5 +1,5 @@
 -- The shape of a type that a form can fill is that of a form.
-use Rattle.std.proofs.Common.{◌≡◌, ℕ, zero, suc, Bool, true, false, ◌==◌, List, [], ◌∷◌, length, Option, Some, None, if◌then◌else◌, ◌⊎◌, inl, inr, refl, ap, sym, ◌∙◌, eqb-true}
+use Rattle.std.proofs.Common.{◌≡◌, ℕ, zero, suc, Bool, true, false, ◌==◌, List, [], ◌∷◌, length, Option, Some, None, if◌then◌else◌, ◌⊎◌, inl, inr, refl, ap, sym, ◌∙◌}
 use Rattle.std.specs.List.{AllByRecursion}
 use Rattle.con_terms.specs.Trees.{Cn, var, basic, record_of, Prs}
 use Rattle.row_normal.specs.NormalForm.{nf}
@@ -15,6 +15,8 @@ use Rattle.core_typing.specs.Seen.{Seen, a_number, a_datatype, nothing_more, lit
 use Rattle.core_typing.specs.Seen as seen
 use Rattle.core_typing.specs.Carried.{FieldsFilled, no_field, a_field, Filled}
 use Rattle.core_typing.specs.Entries.{parts_of, Shaped, of_int, of_text, of_truth, of_datatype, of_nothing, of_fields, of_parameter, FieldsShaped, no_field_shaped, field_shaped}
+use Rattle.core_typing.proofs.Matched.{symbol_of as symbol_is}
+use Rattle.core_typing.proofs.LeftOver.{inside as same_row}
 use Rattle.answered_requests.proofs.Lists.{some_is, heads, tails, none_there, put_among}
 
 -- a basic type is its own normal form
@@ -28,15 +30,6 @@ form_from (Some r) c n h e = sym (some_is e) ∙ sym (h r refl)
 
 basic_normal : (s : ℕ) {t n : Cn} → t ≡ basic s → normal_of t ≡ Some n → n ≡ basic s
 basic_normal s {t} {n} q h = form_from (nf comparison_units (basic s)) (basic s) n (basic_form s comparison_units) (ap normal_of (sym q) ∙ h)
-
--- a datatype that is found by a symbol has it
-symbol_if : (b : Bool) (x d : Dt) (s : ℕ) (o : Option Dt) → (b ≡ true → x.symbol ≡ s) → (o ≡ Some d → d.symbol ≡ s) → (if b then Some x else o) ≡ Some d → d.symbol ≡ s
-symbol_if true x d s o f g h = ap (λ (z : Dt). z.symbol) (sym (some_is h)) ∙ f refl
-symbol_if false x d s o f g h = g h
-
-symbol_is : (ds : List Dt) (s : ℕ) (d : Dt) → datatype_of ds s ≡ Some d → d.symbol ≡ s
-symbol_is [] s d h = cc
-symbol_is (x ∷ ds) s d h = symbol_if (x.symbol == s) x d s (datatype_of ds s) (eqb-true x.symbol s) (symbol_is ds s d) h
 
 -- what is seen of a basic type that is neither int nor string
 abbrev seen_so : Option Dt → Seen
@@ -124,9 +117,6 @@ parts_shape (q ∷ qs) h = (h.0, parts_shape qs h.1)
 -- two normal forms of a type are one
 one_form : (t : Cn) {m n : Cn} → normal_of t ≡ Some m → normal_of t ≡ Some n → m ≡ n
 one_form t h g = some_is (sym h ∙ g)
-
-same_row : {r q : Cn} → record_of r ≡ record_of q → r ≡ q
-same_row e = cc
 
 pub form_shape : {names : List (List ℕ)} {ds : List Dt} {k : ℕ} {t : Cn} {s : Sh} → Filled t → Shaped names ds k t s → IsFormShape s
 form_shape {ds = ds} {t = t} f (of_int h e) = record_number (ap (seen ds) (one_form t f.1 h) ∙ e)

@@ -2,16 +2,8 @@
 use Rattle.std.proofs.Common.{◌≡◌, ℕ, List, subst}
 use Rattle.table_rows.specs.Wires.{Wr, Wrs}
 use Rattle.table_rows.specs.Shapes.{Sh, a_unit, a_record, Pts, Cases, HasShape, text_has, unit_has, true_has, false_has, record_has, HaveParts, no_parts_have, part_has}
-use Rattle.link_router.specs.Forms.{Form, filled, lacks, spoils, ReadsField, reads_text, checked, unchecked, FailsField, no_pair, no_text, ReadsFields, no_more, one_more, FailsFields, here, later, ReadsForm, of_nothing, of_fields, of_failure}
-
-filled_wire : {w v : Wr} → filled w ≡ filled v → w ≡ v
-filled_wire e = cc
-
-lacks_none : {P : Type 0} {n : List ℕ} {w : Wr} → lacks n ≡ filled w → P
-lacks_none e = cc
-
-spoils_none : {P : Type 0} {n : List ℕ} {w : Wr} → spoils n ≡ filled w → P
-spoils_none e = cc
+use Rattle.link_router.specs.Forms.{Form, filled, ReadsField, reads_text, checked, unchecked, FailsField, no_pair, no_text, ReadsFields, no_more, one_more, FailsFields, here, later, ReadsForm, of_nothing, of_fields, of_failure}
+use Rattle.core_meaning.proofs.OneAnswer.{filled_wire, lacks_or_filled as lacks_none, spoils_or_filled as spoils_none}
 
 field_has : {D : List Cases} {ps : List (List ℕ × List ℕ)} {n : List ℕ} {s : Sh} {w : Wr} → ReadsField ps n s w → HasShape D s w
 field_has (reads_text h u) = text_has

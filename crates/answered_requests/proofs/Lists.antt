@@ -1,30 +1,16 @@
 -- Lists: what stands in them, and what a choice between two keeps.
-use Rattle.std.proofs.Common.{◌≡◌, ℕ, Bool, true, false, List, [], ◌∷◌, Some, None, slice_get, if◌then◌else◌, ap, ◌∙◌}
-use Rattle.std.specs.List.{Contains, AllByRecursion}
+use Rattle.std.proofs.Common.{◌≡◌, ℕ, Bool, true, false, List, [], ◌∷◌, if◌then◌else◌}
+use Rattle.std.specs.List.{AllByRecursion}
 use Rattle.std.specs.Ordering.{is_lt, nat_cmp}
 use Rattle.std.specs.Cmp.Lexicographic.{slice_cmp}
-use Rattle.std.proofs.lemmas.Option.{slice_get-get_or}
 use Rattle.table_rows.specs.Shapes.{Sh}
+pub use Rattle.link_router.proofs.ReadBack.{heads, tails}
 use Rattle.core_typing.specs.Entries.{put_part}
-
-pub some_is : {X : Type 0} {x y : X} → Some x ≡ Some y → x ≡ y
-some_is h = cc
-
-pub no_place : {X P : Type 0} {x : X} → None ≡ Some x → P
-no_place h = cc
-
-pub heads : {X : Type 0} {x y : X} {xs ys : List X} → x ∷ xs ≡ y ∷ ys → x ≡ y
-heads e = cc
-
-pub tails : {X : Type 0} {x y : X} {xs ys : List X} → x ∷ xs ≡ y ∷ ys → xs ≡ ys
-tails e = cc
+pub use Rattle.core_typing.proofs.OneSite.{some_is}
+pub use Rattle.core_typing.proofs.SiteRoutes.{no_place, place_of as place_in}
 
 pub none_there : {P X : Type 0} {x : X} {xs : List X} → x ∷ xs ≡ [] → P
 none_there e = cc
-
--- what a list contains has a place in it
-pub place_in : {X : Type 0} (xs : List X) (x : X) → Contains xs x → (i : ℕ) × (slice_get xs i ≡ Some x)
-place_in xs x c = (c.0, slice_get-get_or xs c.0 x c.1 ∙ ap (λ y. Some y) c.2)
 
 -- what holds of both holds of the one that is chosen
 pub chosen : {X : Type 0} (P : X → Type 0) (b : Bool) (x y : X) → P x → P y → P (if b then x else y)

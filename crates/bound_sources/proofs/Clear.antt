@@ -1,5 +1,6 @@
 -- Where a part of a source is read, no name in it is unbound: tests that are joined.
-use Rattle.std.proofs.Common.{◌≡◌, Bool, true, false, not, ◌&&◌, ◌||◌, refl, sym}
+use Rattle.std.proofs.Common.{◌≡◌, Bool, true, false, not, ◌&&◌, ◌||◌, refl}
+pub use Rattle.std.proofs.lemmas.Bool.{or_from as neither}
 
 -- where the one test passes, the other doesn't
 abbrev pub Clear : Bool → Bool → Type 0
@@ -15,10 +16,6 @@ never h = no h
 -- where no name stands
 pub nothing : {a : Bool} → Clear a false
 nothing h = refl
-
-pub neither : (x y : Bool) → x ≡ false → y ≡ false → (x || y) ≡ false
-neither true y e k = no (sym e)
-neither false y e k = k
 
 two_at : (a b x y : Bool) → Clear a x → Clear b y → Clear (a && b) (x || y)
 two_at true b x y f g h = neither x y (f refl) (g h)

@@ -1,8 +1,9 @@
 -- What a name stands for is in scope, also where only names are known.
-use Rattle.std.proofs.Common.{◌≡◌, ℕ, ◌==◌, Bool, true, false, ◌&&◌, ◌||◌, List, [], ◌∷◌, map, Option, Some, None}
+use Rattle.std.proofs.Common.{◌≡◌, ℕ, ◌==◌, Bool, true, false, ◌&&◌, List, [], ◌∷◌, map, Option, Some, None}
 use Rattle.std.proofs.Common.{codes, if◌then◌else◌, refl, ap, sym, ◌∙◌}
 use Rattle.std.specs.Str.{bytes_eq}
 use Rattle.std.proofs.lemmas.Slice.Eq.{bytes_eq-Decides}
+use Rattle.std.proofs.lemmas.Bool.{or_left as first_is, or_right as second_is}
 use Rattle.con_terms.specs.Trees.{Cn}
 use Rattle.core_terms.specs.BasisTexts.{value_text}
 use Rattle.core_terms.specs.Trees.{Fo, basis, fold_over}
@@ -42,14 +43,6 @@ value_bare : (s : Scope) (p : Path) → value_means (bare_scope s) p ≡ value_m
 value_bare s p = ap (first_of (binder_at p.modules p.name s.values)
     (in_home (home_of p.modules s.declared.modules) (value_in p.name s.declared.values)))
     (undeclared_bare s.tables p.modules p.name)
-
-first_is : (a b : Bool) → a ≡ true → (a || b) ≡ true
-first_is true b h = refl
-first_is false b h = no h
-
-second_is : (a b : Bool) → b ≡ true → (a || b) ≡ true
-second_is true b h = refl
-second_is false b h = h
 
 meant_is_there : (m : Meant) (f : Fo) → is_meant m f ≡ true → is_there m ≡ true
 meant_is_there (a_binder i) f h = refl

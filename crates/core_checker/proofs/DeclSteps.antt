@@ -1,5 +1,5 @@
 -- Steps of the loops over declarations and what is in them.
-use Rattle.std.proofs.Common.{◌≡◌, ℕ, zero, suc, ◌+◌, ◌<◌, ◌≤◌, List, [], ◌∷◌, ◌++◌, length, map, get_or, take, drop, Some, slice_get, refl, ap, sym, subst, ◌∙◌, arith, drop-cons, drop_of_length-le}
+use Rattle.std.proofs.Common.{◌≡◌, ℕ, zero, suc, ◌+◌, ◌<◌, ◌≤◌, List, [], ◌∷◌, ◌++◌, length, map, get_or, take, drop, Some, slice_get, refl, ap, sym, subst, ◌∙◌, arith, drop_of_length-le}
 use Rattle.std.proofs.lemmas.List.{append_assoc, map-append}
 use Rattle.con_terms.specs.Trees.{Kd, types, to, Cn}
 use Rattle.con_terms.specs.declared.symbol.Sym.{Sym}
@@ -14,10 +14,9 @@ use Rattle.core_terms.specs.declared.program.FolderName.{FolderName}
 use Rattle.core_typing.specs.Declarations.{under_types}
 use Rattle.core_typing.specs.Scopes.{Sc, datatype_kinds, folder_kinds, under_con}
 use Rattle.node_rules.specs.Locals.{Ls, none_yet, and_then_found}
+use Rattle.markup_rules.proofs.Loops.{taken_next as taken}
+pub use Rattle.site_routes.proofs.Steps.{open_at}
 use Rattle.core_checker.specs.Declarations.{Gl, After, DeclsJudge, ProgramJudges, at_start, constructors_found, of_constructor, types_of}
-
-pub open_at : {X : Type 0} (xs : List X) (i : ℕ) (x : X) → x ≡ get_or xs i x → i < length xs → drop i xs ≡ x ∷ drop (i + 1) xs
-open_at xs i x e h = drop-cons xs i x h ∙ ap (λ y. y ∷ drop (suc i) xs) (sym e) ∙ ap (λ n. x ∷ drop n xs) (let p : suc i ≡ i + 1 = omega arith in p)
 
 -- kinds
 pub taking_on : (n : ℕ) (k old : Kd) → old ≡ type_taking n → k ≡ to types old → k ≡ type_taking (n + 1)
@@ -76,11 +75,6 @@ dropped : {X : Type 0} (xs : List X) (i : ℕ) (x : X) → slice_get xs i ≡ So
 dropped [] i x e = absurd cc
 dropped (y ∷ ys) zero x e = ap (λ z. z ∷ ys) (same y x e)
 dropped (y ∷ ys) (suc i) x e = dropped ys i x e
-
-taken : {X : Type 0} (xs : List X) (i : ℕ) (x : X) → slice_get xs i ≡ Some x → take (suc i) xs ≡ take i xs ++ x ∷ []
-taken [] i x e = absurd cc
-taken (y ∷ ys) zero x e = ap (λ z. z ∷ []) (same y x e)
-taken (y ∷ ys) (suc i) x e = ap (λ zs. y ∷ zs) (taken ys i x e)
 
 constructor_on : (G : Sc) (xs : List Constructor) (i : ℕ) (c : Constructor) (old : Ls) → slice_get xs i ≡ Some c →
     constructors_found G (map constructor_view (take (suc i) xs))

@@ -1,8 +1,8 @@
 -- Declarations of which all are found, and of which nothing is told, are found by the rules.
-use Rattle.std.proofs.Common.{◌≡◌, ℕ, zero, suc, Bool, true, false, ◌==◌, if◌then◌else◌, List, [], ◌∷◌, ◌++◌, map, Option, Some, None, refl, ap, sym, ◌∙◌, subst, length, arith}
+use Rattle.std.proofs.Common.{◌≡◌, ℕ, Bool, true, false, ◌==◌, if◌then◌else◌, List, [], ◌∷◌, ◌++◌, map, Option, Some, None, refl, ap, sym, ◌∙◌, subst, length}
 use Rattle.std.proofs.lemmas.List.{append_assoc}
-use Rattle.std.specs.List.{All, AllByRecursion}
-use Rattle.std.proofs.lemmas.List.Elements.{All-contains}
+use Rattle.std.specs.List.{AllByRecursion}
+use Rattle.std.proofs.lemmas.List.Elements.{All-contains, All-from_recursion as all_from}
 use Rattle.std.proofs.lemmas.Bool.{eq-eqb, eqb-true}
 use Rattle.con_terms.specs.Trees.{Kd, types, Cn}
 use Rattle.con_terms.specs.declared.place.Place.{Place}
@@ -17,6 +17,7 @@ use Rattle.core_typing.specs.Judged.{HasKind, has}
 use Rattle.core_typing.specs.Own.{place_of, type_place}
 use Rattle.core_typing.specs.Declarations.{scope_with, value_types, named_values, under_types, Distinct}
 use Rattle.node_rules.specs.Locals.{Ls, none_yet, and_then_found}
+use Rattle.markup_rules.proofs.Basics.{false_true as false_not}
 use Rattle.judged_terms.specs.Laws.{Clean, DeclaredIsFound, NamesAreFound}
 use Rattle.judged_terms.proofs.Basics.{some_none, none_some, some_is, kinded}
 use Rattle.judged_terms.proofs.Lets.{clean_parts}
@@ -39,9 +40,6 @@ kinds_alone e no_name_found = no_name_found
 kinds_alone e (name_found {t = t} k f a r) = name_found (kind_alone t types e k) f a (kinds_alone e r)
 
 -- constructors, and those that stand before them
-false_not : false ≡ true → ⊥
-false_not h = cc
-
 by_test : (c x : ℕ) (b z : Bool) → (c == x) ≡ z → (if z then true else b) ≡ false → (c ≡ x → ⊥) × (b ≡ false)
 by_test c x b true e k = absurd (false_not (sym k))
 by_test c x b false e k = (λ s. false_not (sym e ∙ eq-eqb c x s), k)
@@ -100,11 +98,6 @@ constructors_clean G before r (c ∷ cs) h =
 all_names : (x : ℕ) (cs : List Cd) → AllByRecursion (λ d. x ≡ d.name → ⊥) cs → AllByRecursion (λ y. x ≡ y → ⊥) (map (λ (c : Cd). c.name) cs)
 all_names x [] h = tt
 all_names x (c ∷ cs) h = (h.0, all_names x cs h.1)
-
-all_from : {X : Type 0} (P : X → Type 0) (xs : List X) → AllByRecursion P xs → All P xs
-all_from P [] h k d l = absurd (omega (arith, l))
-all_from P (x ∷ xs) h zero d l = h.0
-all_from P (x ∷ xs) h (suc k) d l = all_from P xs h.1 k d (omega (arith, l))
 
 distinct : (cs : List Cd) → Differ cs → Distinct (map (λ (c : Cd). c.name) cs)
 distinct [] h = tt

@@ -52,7 +52,7 @@ none_before es places callees = never
     never f (told_before l x) = omega (arith, l)
 
 -- and of one more
-below : (n j : ℕ) → n < j + 1 → (n < j) ⊎ (n ≡ j)
+pub below : (n j : ℕ) → n < j + 1 → (n < j) ⊎ (n ≡ j)
 below zero zero h = inr refl
 below zero (suc j) h = inl (omega arith)
 below (suc n) zero h = absurd (omega (arith, h))

@@ -1,5 +1,5 @@
 -- Keys of entries, and tables of them.
-use Rattle.std.proofs.Common.{◌≡◌, ℕ, zero, suc, ◌+◌, ◌<◌, ◌≤◌, ◌⊎◌, inl, inr, Bool, true, false, cond, List, [], ◌∷◌, ◌++◌, length, get_or, map, drop, Some, slice_get, refl, ap, sym, ◌∙◌, subst, arith, append_assoc, drop-cons, drop_of_length-le, if◌then◌else◌}
+use Rattle.std.proofs.Common.{◌≡◌, ℕ, suc, ◌+◌, ◌<◌, ◌≤◌, inl, inr, Bool, true, false, cond, List, [], ◌∷◌, ◌++◌, length, get_or, map, drop, Some, slice_get, ap, sym, ◌∙◌, subst, arith, append_assoc, drop-cons, drop_of_length-le, if◌then◌else◌}
 use Rattle.std.specs.Bool.{Decides}
 use Rattle.std.specs.List.{Contains, list_any}
 use Rattle.std.specs.Str.{bytes_eq}
@@ -13,6 +13,7 @@ use Rattle.link_router.specs.declared.routes.Entry.{Entry}
 use Rattle.core_checker.specs.Keys.{dotted, key_of, HasKeys}
 use Rattle.core_checker.specs.Twice.{SameCall, Twice}
 use Rattle.core_checker.proofs.EntryNames.{entry_at}
+use Rattle.core_checker.proofs.EntryFaults.{below as next_or}
 
 -- the pieces of a name, one after another
 pub pieces_on : (xs : List (List ℕ)) (i : ℕ) (x old new all : List ℕ) → x ≡ get_or xs i [] → i < length xs →
@@ -51,12 +52,6 @@ kept_by table key x c = by (list_any (bytes_eq key) table)
     by false = Contains-append_left table (key ∷ []) x c
 
 -- the keys before the next place
-next_or : (n j : ℕ) → n < j + 1 → (n < j) ⊎ (n ≡ j)
-next_or zero zero h = inr refl
-next_or zero (suc j) h = inl (omega arith)
-next_or (suc n) zero h = absurd (omega (arith, h))
-next_or (suc n) (suc j) h = elim (next_or n j (omega (arith, h))) [ inl l ↦ inl (omega (arith, l)) | inr e ↦ inr (ap suc e) ]
-
 pub keys_on : (es : List Ent) (j : ℕ) (e : Ent) (old new : List (List ℕ)) → slice_get es j ≡ Some e → HasKeys es j old →
     ((x : List ℕ) → Contains old x → Contains new x) → Contains new (key_of e) → HasKeys es (j + 1) new
 keys_on es j e old new at has more there i a l g = elim (next_or i j l) [

@@ -1,6 +1,5 @@
 -- What is left of lists, one element after another.
-use Rattle.std.proofs.Common.{◌≡◌, ℕ, zero, suc, ◌+◌, ◌<◌, ◌≤◌, List, [], ◌∷◌, ◌++◌, length, map, drop, Option, Some, None, slice_get, refl, ap, sym, subst, ◌∙◌, arith, drop-cons, drop_of_length-le, append_assoc, append-nil}
-use Rattle.std.proofs.lemmas.Option.{slice_get_within, get_or_from_slice_get}
+use Rattle.std.proofs.Common.{◌≡◌, ℕ, zero, suc, ◌+◌, ◌<◌, ◌≤◌, List, [], ◌∷◌, ◌++◌, length, map, drop, Option, Some, None, slice_get, refl, ap, sym, subst, ◌∙◌, arith, drop_of_length-le, append_assoc, append-nil}
 use Rattle.con_terms.specs.Trees.{Cn}
 use Rattle.con_terms.specs.declared.place.Place.{Place}
 use Rattle.core_terms.specs.Trees.{Ex, It, Lo, Nms, no_named, named, Los, no_locals, local_val, local_rec, Brs, no_branches, branch}
@@ -9,17 +8,13 @@ use Rattle.core_terms.specs.View.{FieldTree, NamedTree, BranchTree, named_from, 
 use Rattle.core_typing.specs.Scopes.{Sc}
 use Rattle.core_typing.specs.Typed.{named_types}
 use Rattle.told_faults.specs.Computed.{Jd}
+use Rattle.match_cover.proofs.Fields.{one_less as opened}
 use Rattle.node_rules.specs.Calls.{Pa}
 use Rattle.node_rules.specs.Locals.{Ls}
 use Rattle.node_rules.specs.Records.{Rw}
 use Rattle.pattern_rules.specs.Matching.{Cs}
 use Rattle.judged_terms.specs.Listed.{part_at, item_found, items_found, field_found, fields_found, name_found, names_found}
 use Rattle.judged_terms.specs.Judge.{PartJudges, JudgesAll, LocalsJudge, BranchesJudge}
-
-opened : {X : Type 0} (xs : List X) (i : ℕ) (x : X) → slice_get xs i ≡ Some x → drop i xs ≡ x ∷ drop (i + 1) xs
-opened xs i x e =
-    let h : i < length xs = slice_get_within xs i x e in
-    drop-cons xs i x h ∙ ap (λ y. y ∷ drop (suc i) xs) (get_or_from_slice_get xs i x x e) ∙ ap (λ n. x ∷ drop n xs) (let p : suc i ≡ i + 1 = omega arith in p)
 
 -- the parts of a list
 pub part_some : {X : Type 0} (f : X → Option Ex) (xs : List X) (i : ℕ) (x : X) → slice_get xs i ≡ Some x → part_at (map f xs) i ≡ f x

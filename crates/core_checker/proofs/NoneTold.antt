@@ -1,11 +1,10 @@
 -- Where nothing is told, and what is told where something is.
-use Rattle.std.proofs.Common.{◌≡◌, Bool, true, false, [], Option, Some, None, Result, Ok, Err, IfOk, if◌then◌else◌, refl, ap, sym, ◌∙◌, subst}
+use Rattle.std.proofs.Common.{◌≡◌, true, [], Option, Some, None, Result, Ok, Err, IfOk, refl, ap, sym, ◌∙◌, subst}
 use Rattle.core_terms.specs.Trees.{Pg}
 use Rattle.core_typing.specs.Accepts.{Accepts, EntriesDiffer, Formed}
 use Rattle.core_typing.specs.Faults as told
-use Rattle.core_typing.specs.Faults.{at}
 use Rattle.core_typing.specs.FoundProgram.{DeclsFound, FoundIsAccepted}
-use Rattle.told_faults.specs.Computed.{first, sooner}
+use Rattle.told_faults.specs.Computed.{first}
 use Rattle.type_faults.specs.View.{maybe_fault}
 use Rattle.type_faults.specs.declared.fault.Fault.{Fault}
 use Rattle.node_rules.specs.Locals.{Ls}
@@ -13,6 +12,7 @@ use Rattle.node_rules.specs.View.{found_tree}
 use Rattle.node_rules.specs.declared.lets.Found.{Found}
 use Rattle.judged_terms.specs.Laws.{Clean, DeclaredIsFound, NamesAreFound}
 use Rattle.told_faults.specs.Told.{Picks}
+use Rattle.markup_rules.proofs.Basics.{first_parts as neither_told}
 use Rattle.told_terms.specs.Laws.{JudgedIsTold}
 use Rattle.core_checker.specs.Declarations.{ProgramJudges}
 use Rattle.core_checker.specs.Told.{IsTold, ToldOf}
@@ -23,15 +23,6 @@ use Rattle.core_checker.proofs.ToldPrograms.{program_told}
 
 some_not : {X : Type 0} (x : X) → Some x ≡ None → ⊥
 some_not x h = cc
-
-one_of : {X : Type 0} (b : Bool) (f g : X) → (if b then Some g else Some f) ≡ None → ⊥
-one_of true f g h = some_not g h
-one_of false f g h = some_not f h
-
-neither_told : (k l : Option told.Fault) → first k l ≡ None → (k ≡ None) × (l ≡ None)
-neither_told None l h = (refl, h)
-neither_told (Some f) None h = absurd (some_not f h)
-neither_told (Some f) (Some g) h = absurd (one_of (sooner (at g) (at f)) f g h)
 
 no_fault : (e : Option Fault) → maybe_fault e ≡ None → e ≡ None
 no_fault None h = refl

@@ -1,5 +1,5 @@
 -- One more module in front (for `modules_chosen`).
-use Rattle.std.proofs.Common.{◌≡◌, ℕ, suc, ◌+◌, ◌<◌, ◌≤◌, List, [], ◌∷◌, length, map, drop, take, get_or, Option, Some, IfSome, ap, sym, ◌∙◌, subst, arith}
+use Rattle.std.proofs.Common.{◌≡◌, ℕ, suc, ◌+◌, ◌<◌, ◌≤◌, List, [], ◌∷◌, length, map, drop, take, get_or, Option, Some, IfSome, ap, sym, ◌∙◌, subst}
 use Rattle.std.proofs.Math.Seq.{drop-cons}
 use Rattle.std.proofs.lemmas.List.{drop-drop, drop-map, drop_all, take-map}
 use Rattle.core_terms.specs.Trees.{De, Pg}
@@ -10,9 +10,7 @@ use Rattle.source_names.specs.Scopes.{Words, Tables}
 use Rattle.inserted_terms.specs.Inside.{Reached}
 use Rattle.inserted_terms.specs.Programs.{DeclsChosen, ModulesChosen, behind_all, in_module}
 use Rattle.inserted_terms.specs.View.{count_of}
-
-plus_one : (i : ℕ) → suc i ≡ i + 1
-plus_one i = omega arith
+use Rattle.inserted_terms.proofs.Searches.{plus_one}
 
 -- a list from a place on
 pub from_place : {X : Type 0} (xs : List X) (i : ℕ) (x : X) → i < length xs → x ≡ get_or xs i x

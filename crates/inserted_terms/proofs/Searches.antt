@@ -37,7 +37,7 @@ if_counted true false f t r n e = ap (λ b. if b then Some f else first_of_form 
 if_counted false true f t r n e = refl
 if_counted false false f t r n e = refl
 
-plus_one : (i : ℕ) → suc i ≡ i + 1
+pub plus_one : (i : ℕ) → suc i ≡ i + 1
 plus_one i = omega arith
 
 -- variables

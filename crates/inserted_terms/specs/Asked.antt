@@ -1,6 +1,6 @@
 -- What is asked of the folders and instances among what a call is applied to: each is the one that is inserted for its
--- parameter's type, or a gap where the rules choose none. The types of the parameters come from walking the head's type,
--- item by item.
+-- parameter's type, or a gap where the rules choose none. The types of the parameters come from walking the head's
+-- type, item by item.
 -- The Ur/Web Manual, "Type Inference", "Folders" and "Type Classes".
 use Rattle.std.specs.Prelude.{Bool, true, false, Option, Some, None, option_and_then, ◌⊎◌}
 use Rattle.con_terms.specs.Trees.{Cn, arrow, poly, guarded}

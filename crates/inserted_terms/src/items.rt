@@ -34,7 +34,6 @@ use std::alloc::{AllocError, Global};
 use type_makers::{basis_type, constructor_type, fold_type};
 
 /// The type of a variable.
-
 fn type_of_variable(alloc: Global, h: &At<'_>, i: u32) -> Result<Option<Con>, AllocError>
     ensures { IfOk result (λ o. maybe_con o ≡ slice_get (locals_view h.now.locals.value) i) }
 {

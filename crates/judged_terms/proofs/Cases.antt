@@ -27,7 +27,7 @@ bad_not h = cc
 judged_is : {j k : Jd} → judged_branch j ≡ judged_branch k → j ≡ k
 judged_is h = cc
 
-false_not : {b : Bool} → b ≡ false → b ≡ true → ⊥
+pub false_not : {b : Bool} → b ≡ false → b ≡ true → ⊥
 false_not h k = cc
 
 -- a branch whose body is judged

@@ -17,9 +17,7 @@ use Rattle.told_faults.proofs.Parts.{kind_is}
 use Rattle.node_rules.specs.Locals.{Ls, is_silent, is_as_wanted, both_true, of_declared, and_then_found, with_declared, if_found, of_let}
 use Rattle.judged_terms.specs.Laws.{Sound, Clean, HasDeclared}
 use Rattle.judged_terms.proofs.Basics.{none_some, first_parts, alike}
-
-false_not : {b : Bool} → b ≡ false → b ≡ true → ⊥
-false_not h k = cc
+use Rattle.judged_terms.proofs.Cases.{false_not}
 
 both_parts : (a b : Bool) → both_true a b ≡ true → (a ≡ true) × (b ≡ true)
 both_parts true b h = (refl, h)

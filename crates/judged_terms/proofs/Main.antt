@@ -29,7 +29,7 @@ use Rattle.judged_terms.proofs.Operations.{select_sound, without_sound, without_
 use Rattle.judged_terms.proofs.Markup.{elements, literals}
 use Rattle.judged_terms.proofs.Cases.{Good, Later, none_later, case_step, case_sound}
 
-not_empty : {j : Jd} {js : List Jd} → j ∷ js ≡ [] → ⊥
+pub not_empty : {j : Jd} {js : List Jd} → j ∷ js ≡ [] → ⊥
 not_empty h = cc
 
 clean_of : (r s : Ls) → s ≡ r → Clean s → Clean r

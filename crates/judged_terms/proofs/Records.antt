@@ -17,6 +17,7 @@ use Rattle.told_faults.specs.Computed.{Jd, flawed}
 use Rattle.told_faults.specs.Heads.{Kindly, kindly, unkind}
 use Rattle.told_faults.proofs.Parts.{kind_is}
 use Rattle.node_rules.specs.Records.{Rw, no_fields_yet, with_value, with_named, with_kinded, is_kinded, with_field, of_whole, of_row, of_fields}
+use Rattle.node_rules.proofs.Listed.{rebuilt}
 use Rattle.judged_terms.specs.Laws.{Sound}
 use Rattle.judged_terms.proofs.Basics.{some_is, none_some, first_parts}
 
@@ -70,10 +71,6 @@ field_step G q n e fs j r v b =
       found = field_found x.kind (v x.given x.type k) b.found;
       all = b.all ∙ ap (λ z. z ++ pair_list b.pairs) (sym x.all) ∙ append_assoc x.start ((n, x.given) ∷ []) (pair_list b.pairs);
     }
-
-rebuilt : (ps : Prs) → pairs_from (pair_list ps) ≡ ps
-rebuilt no_pairs = refl
-rebuilt (pair n v ps) = ap (pair n v) (rebuilt ps)
 
 -- {n = e, ..}
 whole_type : (G : Sc) (p : Place) (kids own : Option Fault) (r : Cn) {k : Result Kd Flw} {t : Cn} → Kindly G r (row_of types) k → (of_whole G p kids own r k).type ≡ Some t → (of_whole G p kids own r k).told ≡ None → HasKind G r (row_of types) × (record_of r ≡ t) × (kids ≡ None) × (own ≡ None)

@@ -1,5 +1,6 @@
 -- Attributes of which nothing is told are found.
 use Rattle.std.proofs.Common.{◌≡◌, Bool, true, false, ◌||◌, List, [], ◌∷◌, ◌++◌, Option, Some, None, refl, ap, subst}
+use Rattle.std.proofs.lemmas.Bool.{or_left as link_first}
 use Rattle.con_terms.specs.Trees.{Cn}
 use Rattle.con_terms.specs.declared.place.Place.{Place}
 use Rattle.xml_trees.specs.declared.source_name.TagName.{TagName}
@@ -23,7 +24,7 @@ use Rattle.markup_rules.proofs.Basics.{some_none, false_true, and_left, and_righ
 use Rattle.markup_rules.proofs.LinksAre.{link_is}
 
 -- names
-same_self : (n : AttrName) → same_name n n ≡ true
+pub same_self : (n : AttrName) → same_name n n ≡ true
 same_self attr.Title = refl
 same_self attr.Link = refl
 same_self attr.Href = refl
@@ -55,7 +56,7 @@ has_attribute n no_attributes h = absurd (false_true h)
 has_attribute n (attribute p m e as') h = by_name p m n e as' (same_name m n) refl h (has_attribute n as')
 
 -- the last of some stands among them, and one of the first some among more
-stands_last : (past : List AttributeTree) (p : Place) (n : AttrName) (e : Ex) → stands_among n (past ++ (p, n, e) ∷ []) ≡ true
+pub stands_last : (past : List AttributeTree) (p : Place) (n : AttrName) (e : Ex) → stands_among n (past ++ (p, n, e) ∷ []) ≡ true
 stands_last [] p n e = ap (λ b. b || false) (same_self n)
 stands_last (a ∷ past) p n e = or_right (same_name a.1 n) (stands_among n (past ++ (p, n, e) ∷ [])) (stands_last past p n e)
 
@@ -63,7 +64,7 @@ or_more : (b c d : Bool) → (b || c) ≡ true → (c ≡ true → d ≡ true) �
 or_more true c d h x = refl
 or_more false c d h x = x h
 
-stands_more : (n : AttrName) (past more : List AttributeTree) → stands_among n past ≡ true → stands_among n (past ++ more) ≡ true
+pub stands_more : (n : AttrName) (past more : List AttributeTree) → stands_among n past ≡ true → stands_among n (past ++ more) ≡ true
 stands_more n [] more h = absurd (false_true h)
 stands_more n (a ∷ past) more h = or_more (same_name a.1 n) (stands_among n past) (stands_among n (past ++ more)) h (stands_more n past more)
 
@@ -117,11 +118,6 @@ by_type : (C : CoverAsked) (bs : List Bool) (G : Sc) (u : Cn) (g : TagName) (p :
     ((v : Cn) → j ≡ Some v → FoundBy C G e v) → has_type j ≡ true → told_at bs G (p, n, e) j o ≡ None → IsOne C G u g n e
 by_type C bs G u g p n e j None m k x h y = absurd (some_none y)
 by_type C bs G u g p n e j (Some t) m k x h y = by_given C bs G u t g p n e j m k x h y
-
--- where one of them is a link
-link_first : (a b : Bool) → a ≡ true → (a || b) ≡ true
-link_first true b h = refl
-link_first false b h = absurd (false_true h)
 
 pub attributes_are : (C : CoverAsked) (bs : List Bool) (G : Sc) (u : Cn) (g : TagName) (past : List AttributeTree) (r : At) (as' : Ats) (js : List Jd) → (has_link (attribute_list as') ≡ true → AreCarriers G.datatypes bs) → Given C G (attribute_terms as') js →
     (attributes_from bs G g u past r (attribute_list as') js).found ≡ true → (attributes_from bs G g u past r (attribute_list as') js).own ≡ None → AttributesFound C G u g as'

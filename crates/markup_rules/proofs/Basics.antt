@@ -1,11 +1,11 @@
 -- What it means that nothing is told, that a comparison, a kinding and two rows tell nothing.
-use Rattle.std.proofs.Common.{◌≡◌, Bool, true, false, ◌&&◌, ◌||◌, List, [], ◌∷◌, Option, Some, None, Result, Ok, Err, if◌then◌else◌, refl, ap, sym, ◌∙◌}
+use Rattle.std.proofs.Common.{◌≡◌, Bool, true, false, ◌&&◌, List, [], ◌∷◌, Option, Some, None, Result, if◌then◌else◌, refl}
+pub use Rattle.std.proofs.lemmas.Bool.{or_right}
 use Rattle.con_terms.specs.Trees.{Kd, Cn}
 use Rattle.con_terms.specs.declared.place.Place.{Place}
-use Rattle.row_normal.proofs.SameTrees.{cn_eq_same, cn_eq_refl}
 use Rattle.kind_rules.specs.Flaws.{Flw}
 use Rattle.kind_rules.specs.Kinding.{judged_at}
-use Rattle.kind_rules.specs.Compared.{comparison_units, normal_forms, not_apart}
+use Rattle.kind_rules.specs.Compared.{not_apart}
 use Rattle.core_terms.specs.Trees.{Ex}
 use Rattle.core_typing.specs.Scopes.{Sc}
 use Rattle.core_typing.specs.Asks.{CoverAsked}
@@ -13,10 +13,12 @@ use Rattle.core_typing.specs.Found.{FoundBy}
 use Rattle.core_typing.specs.Faults.{Fault, at}
 use Rattle.core_typing.specs.Compared.{Alike, Disjoint}
 use Rattle.core_typing.specs.Judged.{HasKind}
+pub use Rattle.core_typing.proofs.OneSite.{some_is}
 use Rattle.told_faults.specs.Computed.{Jd, sooner, first, flawed, wants}
 use Rattle.told_faults.specs.Heads.{Wanted, agree, disagree, Kindly, kindly, unkind}
 use Rattle.told_faults.proofs.Parts.{wanted, kind_is}
-use Rattle.judgements.specs.Comparisons.{same_forms, are_alike, flaw_told, meets}
+use Rattle.judgements.specs.Comparisons.{flaw_told, meets}
+pub use Rattle.carried_types.proofs.Alike.{alike_is as tested, is_alike as test_holds}
 use Rattle.markup_rules.specs.Nodes.{silent, told_after}
 use Rattle.markup_rules.specs.Laws.{Founds}
 
@@ -25,9 +27,6 @@ some_none h = cc
 
 pub none_some : {X : Type 0} {x : X} → None ≡ Some x → ⊥
 none_some h = cc
-
-pub some_is : {X : Type 0} {x y : X} → Some x ≡ Some y → x ≡ y
-some_is h = cc
 
 pub false_true : false ≡ true → ⊥
 false_true h = cc
@@ -42,10 +41,6 @@ and_left false b h = absurd (false_true h)
 pub and_right : (a b : Bool) → (a && b) ≡ true → b ≡ true
 and_right true b h = h
 and_right false b h = absurd (false_true h)
-
-pub or_right : (a b : Bool) → b ≡ true → (a || b) ≡ true
-or_right true b h = refl
-or_right false b h = h
 
 -- of two faults neither is there
 by_test : (f g : Fault) (b : Bool) → (if b then Some g else Some f) ≡ None → ⊥
@@ -68,16 +63,6 @@ alike_by (disagree x) h = absurd (some_none h)
 
 pub alike : (G : Sc) (p : Place) (t u : Cn) → wants G p t u ≡ None → Alike t u
 alike G p t u h = alike_by (wanted G p t u) h
-
-by_forms : (a b : Cn) (r : Result (Cn × Cn) Flw) → normal_forms comparison_units a b ≡ r → same_forms r ≡ true → Alike a b
-by_forms a b (Err w) e h = absurd (false_true h)
-by_forms a b (Ok (m, n)) e h = record { form = m; forms = e ∙ ap (λ z. Ok (m, z)) (sym (cn_eq_same m n h)) }
-
-pub tested : (a b : Cn) → are_alike a b ≡ true → Alike a b
-tested a b h = by_forms a b (normal_forms comparison_units a b) refl h
-
-pub test_holds : (a b : Cn) → Alike a b → are_alike a b ≡ true
-test_holds a b x = ap same_forms x.forms ∙ cn_eq_refl x.form
 
 -- kinds
 kinded_by : {G : Sc} {c : Cn} {k : Kd} {r : Result Kd Flw} (p : Place) → Kindly G c k r → flawed G p r ≡ None → HasKind G c k

@@ -16,6 +16,7 @@ use Rattle.core_typing.specs.Typed.{IsWords, of_cdata, of_txt, NodesAreWords}
 use Rattle.core_typing.specs.Compared.{Alike}
 use Rattle.core_typing.specs.Judged.{HasKind}
 use Rattle.core_typing.specs.Faults.{Fault}
+use Rattle.core_typing.proofs.DecidedElements.{outside_form as may_be_out}
 use Rattle.told_faults.specs.Computed.{Jd, flawed}
 use Rattle.judgements.specs.Comparisons.{are_alike}
 use Rattle.markup_rules.specs.Standing.{Ar, within_form, no_form, around_by, around_of, elsewhere_told, other_name, name_by, name_told}
@@ -61,14 +62,7 @@ held_none G no_nodes js o d h = (refl, h)
 held_none G (a_node b e xs) js o d h = absurd (none_some h)
 
 -- where it stands
-may_be_out : (w : Where) → MayBeInForm w false
-may_be_out in_html = tt
-may_be_out in_head = tt
-may_be_out in_body = tt
-may_be_out in_table = tt
-may_be_out in_tr = tt
-
-may_be_in : (w : Where) (c : Cn) → are_alike (context_row w false) c ≡ false → are_alike (context_row w true) c ≡ true → MayBeInForm w true
+pub may_be_in : (w : Where) (c : Cn) → are_alike (context_row w false) c ≡ false → are_alike (context_row w true) c ≡ true → MayBeInForm w true
 may_be_in in_html c h k = absurd (true_false (sym k ∙ h))
 may_be_in in_head c h k = absurd (true_false (sym k ∙ h))
 may_be_in in_body c h k = tt

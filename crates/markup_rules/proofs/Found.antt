@@ -110,7 +110,7 @@ by_sort C G p g n c u b as' xs ks a_button x k st na ac h =
     (has_attribute attr.Action as' (acts p (stands_among attr.Action (attribute_list as')) ac)))))
 
 -- the rows of an element and of a literal
-rows_are : (G : Sc) (p : Place) (c u : Cn) → rows_told G p c u ≡ None → HasKind G c (row_of units) × HasKind G u (row_of types)
+pub rows_are : (G : Sc) (p : Place) (c u : Cn) → rows_told G p c u ≡ None → HasKind G c (row_of units) × HasKind G u (row_of types)
 rows_are G p c u h =
     let x = first_parts (flawed G p (judged_at G.kinds c (row_of units))) (flawed G p (judged_at G.kinds u (row_of types))) h in
     (kinded G p c (row_of units) x.0, kinded G p u (row_of types) x.1)

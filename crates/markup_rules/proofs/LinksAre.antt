@@ -53,7 +53,7 @@ by_head : (p : Place) (a : Bool) (f : Ex) (s : Sigil) (is : Its) (j n : ℕ) →
 by_head p a (node q b (top i)) s is j n h = by_count p q a b i j n s is (term_count (item_list is)) refl h
 by_head p a (node q b _) s is j n h = absurd (none_some h)
 
-call_is : (e : Ex) (j n : ℕ) → call_of e ≡ Some (j, n) → IsCallOf e j n
+pub call_is : (e : Ex) (j n : ℕ) → call_of e ≡ Some (j, n) → IsCallOf e j n
 call_is (node p a (top i)) j n h =
     let x : i ≡ j = ap top_of h in
     let y : 0 ≡ n = ap count_of h in

@@ -2,6 +2,7 @@
 use Rattle.std.proofs.Common.{◌≡◌, ℕ, zero, suc, ◌+◌, ◌-◌, ◌<◌, ◌≤◌, Bool, true, false, ◌&&◌, ◌||◌, List, [], ◌∷◌, ◌++◌, length, take, drop, Option, Some, None, slice_get, refl, ap, sym, ◌∙◌, arith, drop-cons, drop_of_length-le, append_assoc}
 use Rattle.std.proofs.lemmas.List.{append-nil}
 use Rattle.std.proofs.lemmas.Option.{slice_get_within, get_or_from_slice_get}
+use Rattle.std.proofs.lemmas.Bool.{or_left as or_true}
 use Rattle.con_terms.specs.Trees.{Cn, cat}
 use Rattle.xml_trees.specs.declared.source_name.TagName.{TagName}
 use Rattle.xml_trees.specs.declared.source_name.AttrName.{AttrName}
@@ -22,7 +23,7 @@ opened xs i x e =
     let h : i < length xs = slice_get_within xs i x e in
     drop-cons xs i x h ∙ ap (λ y. y ∷ drop (suc i) xs) (get_or_from_slice_get xs i x x e) ∙ ap (λ n. x ∷ drop n xs) (let p : suc i ≡ i + 1 = omega arith in p)
 
-taken_next : {X : Type 0} (xs : List X) (i : ℕ) (x : X) → slice_get xs i ≡ Some x → take (suc i) xs ≡ take i xs ++ x ∷ []
+pub taken_next : {X : Type 0} (xs : List X) (i : ℕ) (x : X) → slice_get xs i ≡ Some x → take (suc i) xs ≡ take i xs ++ x ∷ []
 taken_next [] i x e = cc
 taken_next (y ∷ ys) zero x e = let k : y ≡ x = cc in ap (λ z. z ∷ []) k
 taken_next (y ∷ ys) (suc i) x e = ap (λ zs. y ∷ zs) (taken_next ys i x e)
@@ -44,10 +45,6 @@ terms_stop xs i x e h k =
 
 pub terms_end : (xs : List It) (i : ℕ) → length xs ≤ i → all_terms (drop i xs) ≡ all_terms xs → Some (length xs) ≡ term_count xs
 terms_end xs i h k = ap (counted xs) (ap all_terms (sym (ended xs i h)) ∙ k)
-
-or_true : (b c : Bool) → b ≡ true → (b || c) ≡ true
-or_true true c h = refl
-or_true false c h = cc
 
 or_false : (b c : Bool) → b ≡ false → (b || c) ≡ c
 or_false true c h = cc

@@ -1,6 +1,6 @@
 -- Lists, element by element.
 use Rattle.std.proofs.Common.{◌≡◌, ℕ, zero, suc, ◌<◌, ◌+◌, List, [], ◌∷◌, ◌++◌, map, drop, length, get_or, Some, slice_get, refl, ap, sym, subst, ◌∙◌, arith}
-use Rattle.std.specs.List.{All, AllByRecursion, Contains}
+use Rattle.std.specs.List.{AllByRecursion, Contains}
 use Rattle.std.proofs.lemmas.List.Elements.{All-contains}
 use Rattle.std.proofs.Math.Seq.{drop-cons}
 use Rattle.con_terms.specs.Trees.{Kd}
@@ -8,11 +8,7 @@ use Rattle.core_typing.specs.Accepts.{FoldersDiffer}
 use Rattle.core_typing.specs.Declarations.{Distinct}
 use Rattle.program_forms.specs.Symbols.{KindsDiffer, SymbolsDiffer}
 use Rattle.std.proofs.lemmas.Option.{same_Some as same}
-
-pub all_from : {X : Type 0} (P : X → Type 0) (xs : List X) → AllByRecursion P xs → All P xs
-all_from P [] h k d l = absurd (omega (arith, l))
-all_from P (x ∷ xs) h zero d l = h.0
-all_from P (x ∷ xs) h (suc k) d l = all_from P xs h.1 k d (omega (arith, l))
+pub use Rattle.std.proofs.lemmas.List.Elements.{All-from_recursion as all_from}
 
 pub of_contained : {X : Type 0} (P : X → Type 0) (xs : List X) (x : X) → AllByRecursion P xs → Contains xs x → P x
 of_contained P xs x h c = All-contains P xs x (all_from P xs h) c

@@ -1,12 +1,11 @@
 -- What the normal form of a type tells of its values and shapes.
-use Rattle.std.proofs.Common.{◌≡◌, ℕ, zero, suc, ◌≤◌, ◌-◌, ◌+◌, ℤ, List, Option, Some, None, option_map, slice_get, false, Result, Ok, refl, ap, sym, subst, ◌∙◌, arith}
+use Rattle.std.proofs.Common.{◌≡◌, ℕ, zero, suc, ◌≤◌, ◌-◌, ◌+◌, ℤ, List, Option, Some, None, option_map, slice_get, false, Ok, refl, ap, sym, subst, ◌∙◌, arith}
 use Rattle.con_terms.specs.Trees.{Cn, basic}
 use Rattle.row_normal.specs.NormalForm.{nf, next_step, too_deep}
 use Rattle.row_normal.specs.Finished.{finished}
 use Rattle.row_normal.specs.Steps.{run}
 use Rattle.row_normal.proofs.Runs.{run_ended}
 use Rattle.row_normal.proofs.Units.{run_more}
-use Rattle.kind_rules.specs.Flaws.{Flw}
 use Rattle.kind_rules.specs.Compared.{comparison_units, with_first, with_second}
 use Rattle.core_terms.specs.Names.{int_name, string_name}
 use Rattle.core_terms.specs.Types.{int_type, string_type}
@@ -14,7 +13,7 @@ use Rattle.core_terms.specs.Trees.{Cd, Dt}
 use Rattle.core_terms.specs.Datatypes.{held_at}
 use Rattle.core_typing.specs.Scopes.{normal_of}
 use Rattle.core_typing.specs.Compared.{Alike}
-use Rattle.core_typing.proofs.Normal.{first_form, second_form}
+use Rattle.core_typing.proofs.Normal.{first_form, second_form, pairs_are}
 use Rattle.core_typing.specs.Seen.{Seen, a_number, a_text, a_datatype, a_record, nothing_more, seen}
 use Rattle.core_typing.specs.Cover as cover
 use Rattle.core_typing.specs.Cover.{Shp, leaf, number_shape, text_shape, bare_shape, holding_shape, record_shape, Shf, ShapeOf, ShapesOf}
@@ -95,9 +94,6 @@ all_units k u l c n h e =
     (l + (u - k), subst (λ w. nf w c ≡ Some (n, l + (u - k))) whole (more_units k (u - k) l c n e))
 
 -- the other of two types that have one normal form
-pairs_are : {x y : Cn × Cn} → ◌≡◌ {A = Result (Cn × Cn) Flw} (Ok x) (Ok y) → x ≡ y
-pairs_are e = cc
-
 second_units : (k m n : Cn) (o : Option (Cn × ℕ)) → with_second k o ≡ Ok (m, n) → (l : ℕ) × (o ≡ Some (n, l))
 second_units k m n None e = cc
 second_units k m n (Some r) e = (r.1, ap (λ x. Some (x, r.1)) (ap (λ (z : Cn × Cn). z.1) (pairs_are e)))

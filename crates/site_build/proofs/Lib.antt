@@ -1,8 +1,8 @@
--- From the files of a project to what its program is held against.
+-- From the files of a project to what its program is held against (for `build`, `build_text` and the steps of `chain`).
 pub mod Sources
--- From what the steps of building tell of a fault to its cause.
+-- From what the steps of building tell of a fault to its cause (for `build` and `build_text`).
 pub mod Causes
--- From what inference and the checker promise to why a program is refused.
+-- From what inference and the checker promise to why a program is refused (for `elaborated` and `unchecked`).
 pub mod Refused
 -- Too many tables are told at one line at most (for the laws).
 mod OneLine

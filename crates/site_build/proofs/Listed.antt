@@ -1,28 +1,18 @@
 -- What is so of the trees that the modules which were read list.
-use Rattle.std.proofs.Common.{◌≡◌, ℕ, zero, suc, ◌+◌, ◌<◌, ◌≤◌, inl, inr, List, [], ◌∷◌, ◌++◌, Option, Some, None, count_by, get_or, length, map, min, take, slice_get, true, refl, ap, ap₂, sym, ◌∙◌, subst, arith}
+use Rattle.std.proofs.Common.{◌≡◌, ℕ, zero, suc, ◌+◌, ◌<◌, ◌≤◌, inl, inr, List, [], ◌∷◌, ◌++◌, Option, Some, None, count_by, get_or, length, min, take, slice_get, true, refl, ap, ap₂, sym, ◌∙◌, subst, arith}
 use Rattle.std.specs.List.{list_any}
 use Rattle.con_terms.specs.declared.place.Place.{Place}
 use Rattle.surface_grammar.specs.Trees.{spell}
 use Rattle.surface_tree.specs.declared.token.Token.{Token}
 use Rattle.unbuilt_forms.specs.Unbuilt.{IsFirstUnbuilt}
-use Rattle.plain_projects.specs.Said.{names_said}
-use Rattle.project_files.specs.Directives.{module_name}
 use Rattle.project_sources.specs.Modules.{ModuleTrees, module_file}
 use Rattle.project_sources.specs.View.{ListsModules}
 use Rattle.project_sources.specs.declared.modules.ModuleSource.{ModuleSource}
+pub use Rattle.plain_projects.proofs.Sources.{names_are as listed_names}
 use Rattle.site_build.specs.Causes.{AreBuilt, IsUnbuiltAt, tables_in}
 use Rattle.site_build.specs.Faults.{IsBeyondAt}
 use Rattle.site_build.specs.Refusals.{IsAt, begins_at}
 use Rattle.site_build.specs.Tables.{is_table}
-
--- ---- names
-
--- the names of modules that were read
-pub listed_names : (ss : List ModuleSource) (ms : List ModuleTrees) → ListsModules ss ms → map (λ (s : ModuleSource). module_name s.line) ss ≡ names_said ms
-listed_names [] [] h = refl
-listed_names [] (m ∷ ms) h = absurd h
-listed_names (s ∷ ss) [] h = absurd h
-listed_names (s ∷ ss) (m ∷ ms) (one, rest) = ap₂ (λ (a : List ℕ) (b : List (List ℕ)). a ∷ b) (ap module_name one.line) (listed_names ss ms rest)
 
 -- ---- tables
 

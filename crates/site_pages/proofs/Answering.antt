@@ -15,7 +15,7 @@ use Rattle.site_pages.specs.Found.{IsFound}
 use Rattle.site_pages.specs.Shown.{IsShown, main_asked, page_steps}
 
 -- an entry that isn't read by POST has no form
-no_form : (f : Option Sh) → is_post f ≡ false → f ≡ None
+pub no_form : (f : Option Sh) → is_post f ≡ false → f ≡ None
 no_form None h = refl
 no_form (Some s) h = absurd (cc)
 
@@ -33,7 +33,7 @@ within_is p d i vs n r l h e = elim (nesting_only_refuses p d i vs n (inl h)) [
 ends_so : (o : Out (Trees × State)) (t : Trees) (st : State) (l : ℕ) → o ≡ done (t, st) l → ShortEnough t → Ends o (finished t st.cookies st.effects)
 ends_so o t st l e s = subst (λ x. Ends x (finished t st.cookies st.effects)) (sym e) (with_page s)
 
-same_entry : (o : Option Ent) (a b : Ent) → o ≡ Some a → o ≡ Some b → a ≡ b
+pub same_entry : (o : Option Ent) (a b : Ent) → o ≡ Some a → o ≡ Some b → a ≡ b
 same_entry o a b h e = cc
 
 pub found_is_shown : (p : Pg) (t : Trees) → IsFound p t → IsShort (written t) → IsShown p t

@@ -6,7 +6,6 @@ use Rattle.con_terms.specs.declared.place.Place.{Place}
 use Rattle.xml_trees.specs.Trees.{Trees, built, trees_of}
 use Rattle.xml_trees.specs.Written.{written}
 use Rattle.xml_trees.specs.declared.page.Piece.{Piece}
-use Rattle.table_rows.specs.Shapes.{Sh}
 use Rattle.link_router.specs.Answered.{IsRefusal, astray_of}
 use Rattle.link_router.specs.Calls.{Ent, Rts, Cl, is_post}
 use Rattle.link_router.specs.Links.{Route}
@@ -35,6 +34,7 @@ use Rattle.site_pages.specs.Stopped.{Stops, StopsAt, line_of_link, line_of_run}
 use Rattle.site_pages.specs.Unshown.{IsAnsweredBy, IsUnshown, Tells, line_astray, line_of_answer, named}
 use Rattle.site_pages.specs.declared.lines.NoPage.{NoPage}
 use Rattle.site_pages.specs.declared.lines.NoPage.TheVariants.{Told, Memory}
+use Rattle.site_pages.proofs.Answering.{same_entry as one_entry, no_form}
 
 -- what a line tells tells what follows from it
 pub tells : (P Q : List ℕ → Type 0) (why : NoPage) → ((line : List ℕ) → P line → Q line) → Tells P why → Tells Q why
@@ -92,10 +92,6 @@ abort_is_long page o line h (bytes, is, many) e =
     let long : TooLong (aborted_page t) = subst (λ (x : Trees). TooLong (aborted_page x)) same (record { bytes = bytes; text = is; long = many }) in
     comes o (failed page_too_long) line (subst (λ x. Ends x (failed page_too_long)) (sym h.out) (with_long_trees long)) (ap Some (sym e)) (λ d. absurd (cc (sym h.out ∙ d)))
 
--- the entry that is called is the one whose arguments were read
-one_entry : (o : Option Ent) (a b : Ent) → o ≡ Some a → o ≡ Some b → a ≡ b
-one_entry o a b h e = cc
-
 pub call_stops : (p : Pg) (routes : Rts) (call : Cl) (number : ℕ) (entry : Ent) (values : List V) (why : NoPage)
     → slice_get routes.entries call.entry ≡ Some entry → AreGiven (known p routes) entry.arguments None call.wires None values
     → Tells (Stops (answered_within p 256 number values 1000000)) why → Tells (StopsAt p routes call number) why
@@ -109,11 +105,6 @@ call_stops p routes call number entry values why is given h =
     }) h
 
 -- ---- what is answered
-
--- an entry that isn't read by POST has no form
-no_form : (f : Option Sh) → is_post f ≡ false → f ≡ None
-no_form None h = refl
-no_form (Some s) h = absurd (cc)
 
 -- a run that isn't stopped for want of nested calls is the same with as many as the steps allow
 shallow_is : (p : Pg) (i : ℕ) (vs : List V) → (answered_within p 256 i vs page_steps ≡ deep → ⊥) → answered_within p 256 i vs page_steps ≡ answered p i vs page_steps

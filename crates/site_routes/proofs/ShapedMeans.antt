@@ -14,6 +14,7 @@ use Rattle.core_typing.specs.Scopes.{normal_of}
 use Rattle.core_typing.specs.Seen.{Seen, a_number, a_datatype, nothing_more, literal_fields, seen, seen_at, seen_basic, seen_data}
 use Rattle.core_typing.specs.Seen as seen
 use Rattle.core_typing.specs.Entries.{put_part, parts_of, Shaped, of_int, of_text, of_truth, of_datatype, of_nothing, of_fields, of_parameter, AllShaped, none_shaped, one_shaped, FieldsShaped, no_field_shaped, field_shaped}
+use Rattle.core_typing.proofs.Matched.{symbol_of as symbol_is}
 use Rattle.carried_types.specs.Built.{place_of}
 use Rattle.carried_types.proofs.Places.{place_is, datatype_placed}
 use Rattle.site_routes.specs.Shaping.{Told, told_map, then_shapes, shapes_by, parameter_of, data_at, data_by, FieldParts, part_of, put_in, with_field, fields_by, record_shape, row_by, seen_by, normal_by, type_by}
@@ -34,14 +35,6 @@ basic_seen : (b c : Bool) (o : Option Dt) (args : List Cn) (d : Dt) (more : List
 basic_seen true c o args d more h = absurd (cc)
 basic_seen false true o args d more h = absurd (cc)
 basic_seen false false o args d more h = found o args d more h
-
-symbol_if : (b : Bool) (x d : Dt) (s : ℕ) (o : Option Dt) → (b ≡ true → x.symbol ≡ s) → (o ≡ Some d → d.symbol ≡ s) → (if b then Some x else o) ≡ Some d → d.symbol ≡ s
-symbol_if true x d s o f g h = ap (λ (z : Dt). z.symbol) (sym (same_Some x d h)) ∙ f refl
-symbol_if false x d s o f g h = g h
-
-symbol_is : (ds : List Dt) (s : ℕ) (d : Dt) → datatype_of ds s ≡ Some d → d.symbol ≡ s
-symbol_is [] s d h = absurd (cc)
-symbol_is (x ∷ ds) s d h = symbol_if (x.symbol == s) x d s (datatype_of ds s) (eqb-true x.symbol s) (symbol_is ds s d) h
 
 seen_is : (ds : List Dt) (n : Cn) (args : List Cn) (d : Dt) (more : List Cn) → seen_at ds n args ≡ a_datatype d more → datatype_of ds d.symbol ≡ Some d
 seen_is ds (basic s) args d more h =

@@ -1,11 +1,8 @@
 -- Lists that differ in length are not alike.
-use Rattle.std.proofs.Common.{◌≡◌, ◌≢◌, ℕ, suc, Bool, true, false, ◌&&◌, List, [], ◌∷◌, length, map, refl, ap, sym}
+use Rattle.std.proofs.Common.{◌≡◌, ◌≢◌, ℕ, suc, Bool, false, List, [], ◌∷◌, length, map, refl, ap, sym}
 use Rattle.std.proofs.Common.{◌∙◌}
+use Rattle.std.proofs.lemmas.Bool.{and_right as after_test}
 use Rattle.source_terms.specs.Alike.{each}
-
-pub after_test : (a b : Bool) → b ≡ false → (a && b) ≡ false
-after_test true b e = e
-after_test false b e = refl
 
 pub lists_differ : {A B : Type 0} (p : A → B → Bool) (xs : List A) (ys : List B) → length xs ≢ length ys
     → each p xs ys ≡ false

@@ -2,6 +2,7 @@
 use Rattle.std.proofs.Common.{◌≡◌, ◌≢◌, ℕ, suc, ◌+◌, ◌<◌, ◌≤◌, Bool, true, false, ◌&&◌, List, [], ◌∷◌, length}
 use Rattle.std.proofs.Common.{get_or, drop, drop-cons, add-one, refl, ap, sym, ◌∙◌, arith}
 use Rattle.std.proofs.lemmas.List.{at_drop_more, drop_more, at_drop_all}
+pub use Rattle.source_names.proofs.Walked.{and_false as no_and}
 
 abbrev pub both : {A B : Type 0} → (A → B → Bool) → List A → List B → Bool
 both r [] [] = true
@@ -11,10 +12,6 @@ both r _ _ = false
 pub and_and : (a b c : Bool) → (a && (b && c)) ≡ ((a && b) && c)
 and_and true b c = refl
 and_and false b c = refl
-
-pub no_and : (b : Bool) → (b && false) ≡ false
-no_and true = refl
-no_and false = refl
 
 -- lists of other lengths
 pub both_differ : {A B : Type 0} (r : A → B → Bool) (xs : List A) (ys : List B) → length xs ≢ length ys

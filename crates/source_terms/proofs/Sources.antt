@@ -2,6 +2,7 @@
 use Rattle.std.proofs.Common.{◌≡◌, ◌↔◌, ℕ, Bool, true, false, ◌&&◌, bytes_eq, nat_eq, List, [], ◌∷◌, Option, Some}
 use Rattle.std.proofs.Common.{None, refl, ap, sym, ◌∙◌, arith}
 use Rattle.std.proofs.lemmas.Slice.Eq.{bytes_eq-Decides}
+use Rattle.std.proofs.lemmas.Bool.{and_from as both_true}
 use Rattle.core_terms.specs.Trees.{Ru, Pg}
 use Rattle.plain_tree.specs.Trees.{DeclTree}
 use Rattle.row_normal.specs.SameTree.{flag_eq}
@@ -17,11 +18,6 @@ first_true false b h = cc
 second_true : (a b : Bool) → (a && b) ≡ true → b ≡ true
 second_true true b h = h
 second_true false b h = cc
-
-both_true : (a b : Bool) → a ≡ true → b ≡ true → (a && b) ≡ true
-both_true true true h k = refl
-both_true true false h k = k
-both_true false b h k = h
 
 -- lists whose elements are one are one
 each_same : {A : Type 0} (p : A → A → Bool) → ((x y : A) → p x y ≡ true → x ≡ y) → (xs ys : List A)

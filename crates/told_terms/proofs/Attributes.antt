@@ -1,10 +1,10 @@
 -- The attributes of an element: what each breaks, and a second one of a name.
 use Rattle.std.proofs.Common.{◌≡◌, ℕ, Bool, true, false, ◌||◌, List, [], ◌∷◌, ◌++◌, Option, Some, None, refl, ap, sym, subst, ◌⊎◌, inl, inr}
+use Rattle.std.proofs.lemmas.Bool.{or_left as link_first}
 use Rattle.con_terms.specs.Trees.{Cn}
 use Rattle.con_terms.specs.declared.place.Place.{Place}
 use Rattle.xml_trees.specs.declared.source_name.TagName.{TagName}
 use Rattle.xml_trees.specs.declared.source_name.AttrName.{AttrName}
-use Rattle.xml_trees.specs.declared.source_name.AttrName.TheVariants as attr
 use Rattle.core_terms.specs.Trees.{Ex, Ats, no_attributes, attribute}
 use Rattle.core_terms.specs.Lists.{attribute_list}
 use Rattle.core_terms.specs.Markup.{attribute_type}
@@ -27,7 +27,7 @@ use Rattle.carried_types.specs.Carriers.{AreCarriers}
 use Rattle.markup_rules.specs.Attributes.{same_name, stands_among, link_told, link_of, other_told, typed_told, told_at, attribute_told, twice_told, second_told, At, has_type, with_attribute, attributes_from, attributes_found, no_attribute_yet, is_link, has_link}
 use Rattle.markup_rules.specs.Laws.{attribute_terms}
 use Rattle.markup_rules.proofs.Basics.{false_true, Given, or_right}
-use Rattle.markup_rules.proofs.AttributesAre.{has_attribute}
+use Rattle.markup_rules.proofs.AttributesAre.{has_attribute, same_self, stands_last, stands_more}
 use Rattle.told_terms.proofs.Wanted.{AttributesTold}
 use Rattle.told_terms.proofs.Tests.{true_false, no_value, both_so}
 use Rattle.told_terms.proofs.Links.{links_pick}
@@ -152,10 +152,6 @@ none_back P G u g past f (or_first x) = x
 none_back P G u g past f (or_second (or_first x)) = absurd (none_fault x)
 none_back P G u g past f (or_second (or_second x)) = absurd (none_again x)
 
-link_first : (a b : Bool) → a ≡ true → (a || b) ≡ true
-link_first true b h = refl
-link_first false b h = absurd (false_true h)
-
 rest_pick : (P : Fault → Type 0) (bs : List Bool) (G : Sc) (g : TagName) (u : Cn) (past : List AttributeTree) (r : At) (as' : Ats) (js : List Jd) → (has_link (attribute_list as') ≡ true → AreCarriers G.datatypes bs) → AttributesTold G as' js → Picks P r.own →
     Picks (Or P (Rest G u g past as')) (attributes_from bs G g u past r (attribute_list as') js).own
 rest_pick P bs G g u past r no_attributes [] m x h =
@@ -174,18 +170,6 @@ rest_pick P bs G g u past r (attribute p n e as') (j ∷ js) m x h =
     (one_pick bs G u g p n e j.type (λ k. m (link_first (is_link n) (has_link (attribute_list as')) k)) x.0.type))
     (second_pick past p n e)))
 
--- names that stand among some
-same_self : (n : AttrName) → same_name n n ≡ true
-same_self attr.Title = refl
-same_self attr.Link = refl
-same_self attr.Href = refl
-same_self attr.Src = refl
-same_self attr.Alt = refl
-same_self attr.Border = refl
-same_self attr.Value = refl
-same_self attr.Size = refl
-same_self attr.Action = refl
-
 -- one that is there stands among them
 pub attribute_stands : {n : AttrName} {as' : Ats} → HasAttribute as' n → stands_among n (attribute_list as') ≡ true
 attribute_stands (typed.first {n = n} {as' = as'}) = ap (λ b. b || stands_among n (attribute_list as')) (same_self n)
@@ -194,18 +178,6 @@ attribute_stands {n} (typed.later {m = m} {as' = as'} x) = or_right (same_name m
 only_name : {p : Place} {m n : AttrName} {e : Ex} → HasAttribute (attribute p m e no_attributes) n → m ≡ n
 only_name typed.first = refl
 only_name (typed.later x) = elim x [ ]
-
-stands_last : (past : List AttributeTree) (p : Place) (n : AttrName) (e : Ex) → stands_among n (past ++ (p, n, e) ∷ []) ≡ true
-stands_last [] p n e = ap (λ b. b || false) (same_self n)
-stands_last (a ∷ past) p n e = or_right (same_name a.1 n) (stands_among n (past ++ (p, n, e) ∷ [])) (stands_last past p n e)
-
-or_more : (b c d : Bool) → (b || c) ≡ true → (c ≡ true → d ≡ true) → (b || d) ≡ true
-or_more true c d h x = refl
-or_more false c d h x = x h
-
-stands_more : (n : AttrName) (past more : List AttributeTree) → stands_among n past ≡ true → stands_among n (past ++ more) ≡ true
-stands_more n [] more h = absurd (false_true h)
-stands_more n (a ∷ past) more h = or_more (same_name a.1 n) (stands_among n past) (stands_among n (past ++ more)) h (stands_more n past more)
 
 last_or : (b c d : Bool) (P : Type 0) → (b || c) ≡ true → (c ≡ true → (d ≡ true) ⊎ P) → ((b || d) ≡ true) ⊎ P
 last_or true c d P h f = inl refl

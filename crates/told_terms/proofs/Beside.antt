@@ -1,6 +1,7 @@
 -- Sets of faults and of nodes beside one another: one set from others, one more part behind those before it, faults
 -- that count only where something holds, and the order in which the first of several is computed.
 use Rattle.std.proofs.Common.{◌≡◌, Bool, true, false, Option, Some, None, if◌then◌else◌, refl, ap, sym, ◌∙◌, subst}
+use Rattle.std.proofs.lemmas.Bool.{false_from_ne_true as not_so, true_from_ne_false as so}
 use Rattle.con_terms.specs.declared.place.Place.{Place}
 use Rattle.core_terms.specs.Trees.{Ex}
 use Rattle.core_typing.specs.Scopes.{Sc}
@@ -127,15 +128,7 @@ picks_start P k h = picks_as (Or Never P) P k there (λ f x. or_second x) h
     there f (or_first x) = absurd (never_none f x)
     there f (or_second x) = x
 
--- the order in which the first of three is computed
-so : (b : Bool) → (b ≡ false → ⊥) → b ≡ true
-so true n = refl
-so false n = absurd (n refl)
-
-not_so : (b : Bool) → (b ≡ true → ⊥) → b ≡ false
-not_so true n = absurd (n refl)
-not_so false n = refl
-
+-- the order in which the first of three is computed:
 -- q before p, r before q: r before p; and q not before p, r not before q: r not before p
 both_sooner : (p q r : Place) → sooner q p ≡ true → sooner r q ≡ true → sooner r p ≡ true
 both_sooner p q r h k = so (sooner r p) (λ e. sooner_isnt r p e (stands_before p q r (never_both p q (sooner_is q p h)) (sooner_is r q k)))

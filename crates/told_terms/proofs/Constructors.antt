@@ -15,6 +15,7 @@ use Rattle.core_typing.proofs.Matched.{symbol_of}
 use Rattle.core_typing.proofs.DecidedForms.{same_data}
 use Rattle.core_typing.proofs.OneType.{one_value}
 use Rattle.pattern_rules.specs.Binds.{Da, bad_data, bare_data, holding_data, held_data, other_data, seen_data, formed_data, constructor_data, datatype_data, data_at}
+use Rattle.judged_terms.proofs.Cases.{false_not as not_both}
 use Rattle.told_terms.proofs.PatternsOut.{other_out}
 use Rattle.told_terms.proofs.Tests.{no_value}
 
@@ -71,9 +72,6 @@ by_held G p s j t n c args (Some u) a k h = record { constructor = c; args = arg
 
 first_data : {d e : Dt} {xs ys : List Cn} → a_datatype d xs ≡ a_datatype e ys → d ≡ e
 first_data m = cc
-
-not_both : {b : Bool} → b ≡ false → b ≡ true → ⊥
-not_both h k = cc
 
 -- another datatype's type isn't this one's
 not_this : (ds : List Dt) (s : ℕ) (n : Cn) (d e : Dt) (args more : List Cn) → datatype_of ds s ≡ Some d → seen ds n ≡ a_datatype e args → (e.symbol == s) ≡ false → seen ds n ≡ a_datatype d more → ⊥

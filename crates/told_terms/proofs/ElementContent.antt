@@ -1,24 +1,22 @@
 -- What an element holds: what is told of it, and the fields that it fills, by its sort.
-use Rattle.std.proofs.Common.{◌≡◌, ℕ, Bool, true, false, List, Option, Some, None, Ok, refl, ap, sym, ◌∙◌, subst}
+use Rattle.std.proofs.Common.{◌≡◌, Bool, true, false, List, Option, Some, None, refl, sym, subst}
 use Rattle.con_terms.specs.Trees.{Cn}
 use Rattle.con_terms.specs.declared.place.Place.{Place}
-use Rattle.row_normal.specs.NormalForm.{nf}
-use Rattle.kind_rules.specs.Compared.{comparison_units, with_second}
 use Rattle.xml_trees.specs.declared.source_name.TagName.{TagName}
 use Rattle.xml_trees.specs.declared.source_name.TagName.TheVariants as tag
-use Rattle.core_terms.specs.Trees.{Ex, Xs, no_nodes, a_node}
+use Rattle.core_terms.specs.Trees.{Xs, no_nodes, a_node}
 use Rattle.core_terms.specs.Types.{no_types, xml_of}
 use Rattle.core_terms.specs.Lists.{node_list}
-use Rattle.core_terms.specs.Markup.{Where, in_html, in_head, in_body, in_table, in_tr, context_row, MayBeInForm, Sort, holding, of_words, empty, a_form, an_input, a_button, stands, sort_of}
-use Rattle.core_typing.specs.Scopes.{Sc, normal_of}
+use Rattle.core_terms.specs.Markup.{Where, in_head, in_body, context_row, MayBeInForm, Sort, holding, of_words, empty, a_form, an_input, a_button, stands, sort_of}
+use Rattle.core_typing.specs.Scopes.{Sc}
 use Rattle.core_typing.specs.Asks.{no_cover}
 use Rattle.core_typing.specs.Typed.{NodesAreWords}
 use Rattle.core_typing.specs.Compared.{Alike, Disjoint}
 use Rattle.core_typing.specs.Found.{NodesFound, last_found, node_found}
 use Rattle.core_typing.specs.Faults.{Fault}
-use Rattle.core_typing.specs.Own.{NodeFault, fills_kind, other_place, filled_before, filled_behind, later_node, NotWords, this_node, later_words}
-use Rattle.core_typing.proofs.OneType.{one_found, one_value, one_answer, one_nodes}
-use Rattle.core_typing.proofs.Excluded.{wants_out, kind_out}
+use Rattle.core_typing.specs.Own.{NodeFault, fills_kind, other_place, filled_before, filled_behind, later_node}
+use Rattle.core_typing.proofs.OneType.{one_found, one_value, one_nodes}
+use Rattle.core_typing.proofs.Excluded.{wants_out, kind_out, context_form, differ_by_form, words_out as not_words}
 use Rattle.core_typing.proofs.DecidedElements.{both_out, outside_form}
 use Rattle.told_faults.specs.Computed.{Jd}
 use Rattle.told_faults.specs.Told.{Picks, Or, or_first, or_second, Holds}
@@ -28,7 +26,7 @@ use Rattle.carried_types.proofs.Alike.{alike_is, is_alike}
 use Rattle.markup_rules.specs.Nodes.{nodes_found}
 use Rattle.markup_rules.specs.Standing.{around_by, around_of, stands_by, field_row}
 use Rattle.markup_rules.specs.Content.{words_in, within, nodes_at, row_if, fills_none, holds_nothing, content_by}
-use Rattle.markup_rules.proofs.ContentIs.{words_are}
+use Rattle.markup_rules.proofs.ContentIs.{words_are, may_be_in}
 use Rattle.told_terms.proofs.Wanted.{NodesTold}
 use Rattle.markup_rules.proofs.Basics.{none_some}
 use Rattle.told_terms.proofs.Tests.{true_false, refused}
@@ -38,40 +36,8 @@ use Rattle.told_terms.proofs.Words.{NoWords, other_word, large_word, words_pick,
 use Rattle.told_terms.proofs.Content.{Held, held_first, held_pick}
 
 -- a context with a form around it isn't one without
-second_is : (m : Cn) (o : Option (Cn × ℕ)) (n : Cn) → with_second m o ≡ Ok (n, n) → elim o [ None ↦ None | Some r ↦ Some r.0 ] ≡ Some m
-second_is m None n e = cc
-second_is m (Some r) n e = ap (λ x. Some x) (sym (both_parts (one_answer {r = Ok (m, r.0)} refl e)))
-  where
-    both_parts : ◌≡◌ {A = Cn × Cn} (m, r.0) (n, n) → m ≡ r.0
-    both_parts i = ap (λ (x : Cn × Cn). x.0) i ∙ sym (ap (λ (x : Cn × Cn). x.1) i)
-
-context_form : (w : Where) (o : Bool) (c : Cn) → Alike (context_row w o) c → normal_of c ≡ Some (context_row w o)
-unfolding comparison_units
-context_form in_html o c a = second_is (context_row in_html false) (nf comparison_units c) a.form a.forms
-context_form in_head o c a = second_is (context_row in_head false) (nf comparison_units c) a.form a.forms
-context_form in_body false c a = second_is (context_row in_body false) (nf comparison_units c) a.form a.forms
-context_form in_body true c a = second_is (context_row in_body true) (nf comparison_units c) a.form a.forms
-context_form in_table false c a = second_is (context_row in_table false) (nf comparison_units c) a.form a.forms
-context_form in_table true c a = second_is (context_row in_table true) (nf comparison_units c) a.form a.forms
-context_form in_tr false c a = second_is (context_row in_tr false) (nf comparison_units c) a.form a.forms
-context_form in_tr true c a = second_is (context_row in_tr true) (nf comparison_units c) a.form a.forms
-
-differ_by_form : (w : Where) → MayBeInForm w true → context_row w false ≡ context_row w true → ⊥
-differ_by_form in_html m e = m
-differ_by_form in_head m e = m
-differ_by_form in_body m e = cc
-differ_by_form in_table m e = cc
-differ_by_form in_tr m e = cc
-
 never_both : (w : Where) (c : Cn) → MayBeInForm w true → Alike (context_row w false) c → Alike (context_row w true) c → ⊥
 never_both w c m a b = differ_by_form w m (one_value (context_form w false c a) (context_form w true c b))
-
-may_be_in : (w : Where) (c : Cn) → are_alike (context_row w false) c ≡ false → are_alike (context_row w true) c ≡ true → MayBeInForm w true
-may_be_in in_html c h k = absurd (true_false k h)
-may_be_in in_head c h k = absurd (true_false k h)
-may_be_in in_body c h k = tt
-may_be_in in_table c h k = tt
-may_be_in in_tr c h k = tt
 
 -- nodes of a place, where the element stands as its tag does
 pub data Within (G : Sc) (w v : Where) (c u : Cn) (xs : Xs) : Fault → Type 0 where
@@ -292,10 +258,6 @@ nodes_out (other_place {c = c} {u = u} {b = b} l y w) (node_found k e a h ys j) 
 nodes_out (filled_before l x) (node_found k e a h ys j) = meets_out h x
 nodes_out {G} (filled_behind {b = b} l zs x) (node_found k e a h ys j) = meets_out (subst (λ z. Disjoint G.kinds.guards b z) (one_nodes ys zs) j) x
 nodes_out (later_node l x) (node_found k e a h ys j) = nodes_out x ys
-
-not_words : {xs : Xs} {e : Ex} → NotWords xs e → NodesAreWords xs → ⊥
-not_words (this_node n) w = n w.0
-not_words (later_words v x) w = not_words x w.1
 
 words_out : {G : Sc} {xs : Xs} {f : Fault} → NodesAreWords xs → NoWords G xs f → ⊥
 words_out w (other_word x y h) = not_words x w

@@ -1,18 +1,17 @@
 -- What one item of a call does: it leads from a type to another, or the call ends there, with a fault or without a type.
-use Rattle.std.proofs.Common.{◌≡◌, Option, Some, sym, subst}
+use Rattle.std.proofs.Common.{◌≡◌, Option, sym, subst}
 use Rattle.con_terms.specs.Trees.{Cn}
 use Rattle.con_terms.specs.declared.place.Place.{Place}
 use Rattle.core_terms.specs.Trees.{Its}
-use Rattle.core_typing.specs.Scopes.{Sc, normal_of}
+use Rattle.core_typing.specs.Scopes.{Sc}
 use Rattle.core_typing.specs.Asks.{no_cover}
 use Rattle.core_typing.specs.Faults.{Fault}
 use Rattle.core_typing.specs.Found.{Leads}
-use Rattle.core_typing.specs.Own.{NotOf, other_form, large_form, ItemFault}
-use Rattle.core_typing.proofs.OneType.{one_value}
+use Rattle.core_typing.specs.Own.{ItemFault}
+pub use Rattle.core_typing.proofs.Excluded.{form_out}
 use Rattle.told_faults.specs.Told.{Picks}
 use Rattle.told_faults.proofs.Verdict.{picks_as}
 use Rattle.node_rules.specs.Calls.{Ft, fits, stuck}
-use Rattle.told_terms.proofs.Tests.{no_value}
 
 -- the items lead from a type to another and none is at fault; or they lead nowhere, and the first fault is picked
 pub data FitIs (G : Sc) (p : Place) (t : Cn) (is : Its) : Ft → Type 0 where
@@ -55,8 +54,3 @@ fit_from G p t d is rest (stuck o) l (ends n k) =
 pub stepped : (G : Sc) (p : Place) (t : Cn) (is rest : Its) (F : Ft → Ft) → Rest G p rest F → (x : Ft) → ItemIs G p t is rest x → FitIs G p t is (F x)
 stepped G p t is rest F r (fits d) (goes l) = fit_from G p t d is rest (F (fits d)) l (r.fit d)
 stepped G p t is rest F r (stuck o) (halts n k) = subst (λ (z : Ft). FitIs G p t is z) (sym (r.stays o)) (ends n k)
-
--- a type that is of a form
-pub form_out : {F : Cn → Type 0} {G : Sc} {p : Place} {w t n : Cn} {f : Fault} → NotOf F G p w t f → normal_of t ≡ Some n → F n → ⊥
-form_out {F = F} (other_form h none) k x = none (subst F (one_value k h) x)
-form_out (large_form h) k x = no_value h k

@@ -1,11 +1,12 @@
 -- Links and actions: calls of top-level functions, what carries their arguments, and what they break.
-use Rattle.std.proofs.Common.{◌≡◌, ℕ, suc, Bool, true, false, not, ◌&&◌, List, length, Option, Some, None, slice_get, refl, ap, sym, ◌∙◌, subst, inl, inr}
+use Rattle.std.proofs.Common.{◌≡◌, ℕ, suc, Bool, true, false, not, List, length, Option, Some, None, slice_get, refl, ap, sym, ◌∙◌, subst, inl, inr}
+use Rattle.std.proofs.lemmas.Bool.{not-true as not_false, and_parts}
 use Rattle.con_terms.specs.Trees.{Cn, arrow, poly, guarded}
 use Rattle.con_terms.specs.declared.place.Place.{Place}
 use Rattle.xml_trees.specs.declared.source_name.AttrName.{AttrName}
 use Rattle.xml_trees.specs.declared.source_name.AttrName.TheVariants as attr
 use Rattle.core_terms.specs.declared.exp.Sigil.{Sigil}
-use Rattle.core_terms.specs.Trees.{Ex, node, top, call, Its, no_items, with_term, with_con, with_guard, It, Dt}
+use Rattle.core_terms.specs.Trees.{Ex, node, top, call, Its, Dt}
 use Rattle.core_terms.specs.Lists.{item_list}
 use Rattle.core_typing.specs.Scopes.{Sc, normal_of}
 use Rattle.core_typing.specs.Typed.{AreTerms, no_term, one_more, IsCallOf, alone, applied, IsLinked, as_link, as_action, as_title, as_href, as_src, as_alt, as_border, as_value, as_size}
@@ -23,9 +24,10 @@ use Rattle.carried_types.specs.Carriers.{AreCarriers}
 use Rattle.carried_types.specs.Pages.{left_behind}
 use Rattle.carried_types.proofs.Alike.{alike_is, is_alike}
 use Rattle.carried_types.proofs.Shown.{shown_is_shown, sent_is_sent, filled_is_filled}
-use Rattle.markup_rules.specs.Links.{Lk, nothing_broken, no_call, no_travel, is_top, calls_top, all_terms, counted, term_count, with_count, call_of_top, call_of, carries_type, carries, linked_call, is_linked, is_generic, plain_form, is_plain, form_travels, rest_travels, left_travels, arguments_travel, travelling_call, travels, Lx, lacks_call, as_called, not_known, behind_form, lack_of_form, lack_of, told_unless, of_lack, of_alike, of_type, of_called, link_fault}
+use Rattle.markup_rules.specs.Links.{Lk, nothing_broken, no_call, no_travel, is_top, calls_top, all_terms, counted, term_count, with_count, call_of, carries_type, carries, linked_call, is_linked, is_generic, plain_form, is_plain, form_travels, rest_travels, left_travels, arguments_travel, travelling_call, travels, Lx, lacks_call, as_called, not_known, behind_form, lack_of_form, lack_of, told_unless, of_lack, of_alike, of_type, of_called, link_fault}
 use Rattle.markup_rules.specs.Attributes.{link_told, link_of, is_link}
-use Rattle.markup_rules.proofs.Basics.{none_some, some_is, false_true}
+use Rattle.markup_rules.proofs.Basics.{false_true}
+use Rattle.markup_rules.proofs.LinksAre.{call_is}
 use Rattle.told_terms.proofs.Tests.{true_false, refused, no_value, both_so}
 use Rattle.told_terms.proofs.Travelling.{left_told, told_left, shown_told, sent_told}
 
@@ -54,49 +56,6 @@ count_so {is} x = let (a, b) = all_so x in ap (counted (item_list is)) a ∙ ap 
 call_so : {e : Ex} {i n : ℕ} → IsCallOf e i n → call_of e ≡ Some (i, n)
 call_so alone = refl
 call_so (applied {i = i} x) = ap (with_count i) (count_so x)
-
-are_terms : (is : Its) → all_terms (item_list is) ≡ true → AreTerms is (length (item_list is))
-are_terms no_items h = no_term
-are_terms (with_term e is) h = one_more (are_terms is h)
-are_terms (with_con p o c is) h = absurd (false_true h)
-are_terms (with_guard p a is) h = absurd (false_true h)
-
-by_all : (xs : List It) (n : ℕ) (b : Bool) → counted xs b ≡ Some n → (b ≡ true) × (length xs ≡ n)
-by_all xs n true h = (refl, some_is h)
-by_all xs n false h = absurd (none_some h)
-
-terms_of : (is : Its) (n : ℕ) → term_count (item_list is) ≡ Some n → AreTerms is n
-terms_of is n h =
-    let x = by_all (item_list is) n (all_terms (item_list is)) h in
-    subst (λ z. AreTerms is z) x.1 (are_terms is x.0)
-
-abbrev top_of : Option (ℕ × ℕ) → ℕ
-top_of None = 0
-top_of (Some r) = r.0
-
-abbrev count_of : Option (ℕ × ℕ) → ℕ
-count_of None = 0
-count_of (Some r) = r.1
-
-by_count : (p q : Place) (a b : Bool) (i j n : ℕ) (s : Sigil) (is : Its) (o : Option ℕ) → term_count (item_list is) ≡ o → with_count i o ≡ Some (j, n) → IsCallOf (node p a (call (node q b (top i)) s is)) j n
-by_count p q a b i j n s is None e h = absurd (none_some h)
-by_count p q a b i j n s is (Some m) e h =
-    let x : i ≡ j = ap top_of h in
-    let y : m ≡ n = ap count_of h in
-    subst (λ z. IsCallOf (node p a (call (node q b (top i)) s is)) z n) x
-    (subst (λ z. IsCallOf (node p a (call (node q b (top i)) s is)) i z) y (applied (terms_of is m e)))
-
-by_head : (p : Place) (a : Bool) (f : Ex) (s : Sigil) (is : Its) (j n : ℕ) → call_of_top f (term_count (item_list is)) ≡ Some (j, n) → IsCallOf (node p a (call f s is)) j n
-by_head p a (node q b (top i)) s is j n h = by_count p q a b i j n s is (term_count (item_list is)) refl h
-by_head p a (node q b _) s is j n h = absurd (none_some h)
-
-call_is : (e : Ex) (j n : ℕ) → call_of e ≡ Some (j, n) → IsCallOf e j n
-call_is (node p a (top i)) j n h =
-    let x : i ≡ j = ap top_of h in
-    let y : 0 ≡ n = ap count_of h in
-    subst (λ z. IsCallOf (node p a (top i)) z n) x (subst (λ z. IsCallOf (node p a (top i)) i z) y alone)
-call_is (node p a (call f s is)) j n h = by_head p a f s is j n h
-call_is (node p a _) j n h = absurd (none_some h)
 
 -- a call of a value that has a type
 pub record Calls (ts : List Cn) (e : Ex) (P : ℕ → Cn → Type 0) : Type 0 where
@@ -147,10 +106,6 @@ generic_is (poly i k t) h = inl (i, k, t, refl)
 generic_is (guarded a b t) h = inr (a, b, t, refl)
 generic_is _ h = absurd (false_true h)
 
-not_false : (b : Bool) → not b ≡ true → b ≡ false
-not_false true h = absurd (false_true h)
-not_false false h = refl
-
 not_generic : (n : Cn) (b : Bool) → is_generic n ≡ b → (IsGeneric n → ⊥) → not b ≡ true
 not_generic n true e none = absurd (none (generic_is n e))
 not_generic n false e none = refl
@@ -172,10 +127,6 @@ plain_is : (t : Cn) → is_plain t ≡ true → Plain t
 plain_is t h = plain_by t (normal_of t) refl h
 
 -- what travels
-and_parts : (a b : Bool) → (a && b) ≡ true → (a ≡ true) × (b ≡ true)
-and_parts true b h = (refl, h)
-and_parts false b h = absurd (false_true h)
-
 call_travels : {e : Ex} {i n : ℕ} {t u : Cn} (G : Sc) (bs : List Bool) (action : Bool) → AreCarriers G.datatypes bs → IsCallOf e i n → slice_get G.tops i ≡ Some t → CarriesTo G.datatypes n t u → rest_travels action u ≡ true → travels G.tops G.datatypes bs action e ≡ true
 call_travels {n = n} G bs action m c h x k =
     ap (travelling_call G.tops G.datatypes bs action) (call_so c)

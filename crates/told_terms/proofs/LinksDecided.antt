@@ -11,13 +11,11 @@ use Rattle.carried_types.specs.Built.{both, held_by, holds_by, built, nested, st
 use Rattle.carried_types.specs.Carriers.{NoneElse, AreCarriers, MarkedAnew}
 use Rattle.carried_types.proofs.Marks.{none_else_next, none_else_first, settled}
 use Rattle.markup_rules.specs.Links.{is_linked}
+use Rattle.markup_rules.proofs.Basics.{some_none}
 use Rattle.told_terms.proofs.Room.{room_enough}
 use Rattle.told_terms.proofs.Links.{name_of, linked_so, linked_is}
 
 -- an answer is given for each datatype
-some_none : {X : Type 0} {x : X} → Some x ≡ None → ⊥
-some_none h = cc
-
 both_answer : (a b : Option Bool) → (a ≡ None → ⊥) → (b ≡ None → ⊥) → both a b ≡ None → ⊥
 both_answer None b f g h = f refl
 both_answer (Some false) b f g h = some_none h

@@ -16,6 +16,7 @@ use Rattle.pattern_rules.specs.Matching.{Br, bad_branch, judged_branch, Cs, firs
 use Rattle.judged_terms.specs.Openings.{Un, opens, no_scope, pattern_scope, guard_scope, BranchIn, WholeIn, UnlessTold}
 use Rattle.judged_terms.specs.Listed.{named_found}
 use Rattle.judged_terms.specs.Judge.{OfParameter, OfMatched, CaseAt, Judges, ElementJudges, ItemsJudge, FieldsJudge, NamesJudge, AttributesJudge, NodesJudge, TermsJudge, LocalsJudge, BranchesJudge}
+use Rattle.judged_terms.proofs.Main.{not_empty}
 use Rattle.told_terms.specs.Laws.{JudgedIsTold}
 use Rattle.told_terms.proofs.Wanted.{ItemsTold, FieldsTold, NamesTold, AttributesTold, NodesTold, TermsTold, LocalsTold, BranchesTold, CaseTold}
 use Rattle.told_terms.proofs.Verdicts.{verdict_as}
@@ -32,9 +33,6 @@ use Rattle.told_terms.proofs.Folders.{folder_told}
 use Rattle.told_terms.proofs.Ascribed.{ascribed_told}
 use Rattle.told_terms.proofs.Elements.{element_told}
 use Rattle.told_terms.proofs.Literals.{literal_told}
-
-not_empty : {j : Jd} {js : List Jd} → j ∷ js ≡ [] → ⊥
-not_empty h = cc
 
 as_told : {G : Sc} {e : Ex} {i : Jd} (j : Jd) → j ≡ i → Verdict G e i → Verdict G e j
 as_told {G} {e} {i} j h v = verdict_as G e j i h v

@@ -13,6 +13,7 @@ use Rattle.core_typing.specs.Faults.{Fault, at, mismatch, too_large}
 use Rattle.core_typing.specs.Own.{NotOf, other_form, large_form, IsRecord, any_record, Meets, they_touch, they_are_large}
 use Rattle.core_typing.proofs.DecidedForms.{none_some, only_large}
 use Rattle.core_typing.proofs.OneType.{one_value}
+pub use Rattle.core_typing.proofs.Excluded.{meets_out}
 use Rattle.told_faults.specs.Heads.{Rec, a_record, no_rec}
 use Rattle.told_faults.specs.Told.{TypeIs, Picks, OfType}
 use Rattle.told_faults.proofs.Heads.{record_view}
@@ -43,10 +44,6 @@ are_apart G p a b = apart_by G p a b (normal_forms comparison_units a b) refl
 pub meets_at : {G : Sc} {p : Place} {a b : Cn} {f : Fault} → Meets G p a b f → at f ≡ p
 meets_at (they_touch t) = refl
 meets_at (they_are_large l) = refl
-
-pub meets_out : {G : Sc} {p : Place} {a b : Cn} {f : Fault} → Disjoint G.kinds.guards a b → Meets G p a b f → ⊥
-meets_out d (they_touch t) = none_some d.none_touch t
-meets_out {G} {a = a} {b = b} d (they_are_large l) = none_some d.none_touch (ap (forms_flaw G.kinds.guards) l)
 
 pub meets_picked : {G : Sc} {p : Place} {a b : Cn} {o : Option Fault} → AreApart G p a b o → Picks (Meets G p a b) o
 meets_picked (they_are d) = λ f x. meets_out d x

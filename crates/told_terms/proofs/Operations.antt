@@ -15,6 +15,7 @@ use Rattle.core_typing.specs.Own.{place_of, Own}
 use Rattle.core_typing.specs.Own as own
 use Rattle.core_typing.specs.Tells.{Sub, selected_from, cut_from, row_cut_from}
 use Rattle.core_typing.proofs.OneType.{one_found}
+use Rattle.core_typing.proofs.OneSite.{some_is}
 use Rattle.told_faults.specs.Computed.{Jd, first, flawed}
 use Rattle.told_faults.specs.Heads.{Kindly}
 use Rattle.told_faults.specs.Told.{TypeIs, Verdict, Picks, Or, or_first, or_second, Only, only, Holds, OfType}
@@ -31,9 +32,6 @@ abbrev form_of : Op → Ex → Cn → Fo
 form_of selects e c = select e c
 form_of cuts e c = without e c
 form_of cuts_row e c = without_row e c
-
-some_is : {X : Type 0} {x y : X} → Some x ≡ Some y → x ≡ y
-some_is e = cc
 
 -- its type is what the operation gives of the record's type
 select_there : (G : Sc) (p : Place) (a : Bool) (e : Ex) (c t n r v : Cn) (x : Option (Cn × List Cn)) → Found G e t → RecordAnd t c r n → HasKind G c (kind_for selects) → field_of n (ordered_pieces r) ≡ x → (selected G p n r x).type ≡ Some v → Found G (node p a (select e c)) v

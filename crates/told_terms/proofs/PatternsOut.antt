@@ -1,38 +1,18 @@
 -- A fault of a pattern excludes that the pattern is found, and what keeps patterns from covering a type excludes cover.
-use Rattle.std.proofs.Common.{◌≡◌, ℕ, List, [], ◌∷◌, Some, None, ap, ap₂, sym, ◌∙◌, subst}
+use Rattle.std.proofs.Common.{List, [], ap, ap₂, sym, ◌∙◌, subst}
 use Rattle.con_terms.specs.Trees.{Cn}
-use Rattle.con_terms.specs.declared.place.Place.{Place}
 use Rattle.row_normal.specs.Ordered.{ordered_pieces}
-use Rattle.core_terms.specs.Trees.{Pt, Pfs, Cd, Dt}
+use Rattle.core_terms.specs.Trees.{Pt, Pfs}
 use Rattle.core_terms.specs.Datatypes.{held_at}
-use Rattle.core_typing.specs.Scopes.{Sc, normal_of}
-use Rattle.core_typing.specs.Seen.{a_datatype, seen}
-use Rattle.core_typing.specs.Cover.{Covers}
+use Rattle.core_typing.specs.Scopes.{Sc}
 use Rattle.core_typing.specs.Compared.{field_of}
 use Rattle.core_typing.specs.Faults.{Fault}
-use Rattle.core_typing.specs.PatternFaults.{Constructs, AtData, PatFound, binds_one, number_binds, text_binds, bare_binds, holding_binds, fields_bind, more_fields_bind, annotated_binds, PatFieldsFound, one_binds, PatFault, PatFieldsFault}
+use Rattle.core_typing.specs.PatternFaults.{PatFound, binds_one, number_binds, text_binds, bare_binds, holding_binds, fields_bind, more_fields_bind, annotated_binds, PatFieldsFound, one_binds, PatFault, PatFieldsFault}
 use Rattle.core_typing.specs.PatternFaults as pat
-use Rattle.core_typing.specs.Own.{Uncovered, misses, large_part}
 use Rattle.core_typing.proofs.OneType.{one_value, one_record, one_constructor, held_alike, one_left}
-use Rattle.core_typing.proofs.Excluded.{differ_out, large_out, kind_out}
+use Rattle.core_typing.proofs.Excluded.{differ_out, large_out, kind_out, none_left}
+pub use Rattle.core_typing.proofs.Excluded.{cover_out, other_out, holds_out}
 use Rattle.told_terms.proofs.Tests.{no_value}
-
-pub cover_out : {G : Sc} {p : Place} {ps : List Pt} {t : Cn} {f : Fault} → Covers G.datatypes ps t → Uncovered G p ps t f → ⊥
-cover_out c (misses {s = s} small m) = let e = sym m.missed ∙ c.taken s m.shape in cc
-cover_out c (large_part l) = c.small l
-
--- a datatype's type that is another one's
-pub other_out : {G : Sc} {s j i : ℕ} {t n : Cn} {d : Dt} {c b : Cd} {args : List Cn} → Constructs G s i d b → normal_of t ≡ Some n → ((as' : List Cn) → seen G.datatypes n ≡ a_datatype d as' → ⊥) → AtData G s j t c args → ⊥
-other_out {G} {args = args} x h none a =
-    let d = one_value a.constructs.declared x.declared in
-    let n = one_value a.normal h in
-    none args (sym (ap (seen G.datatypes) n) ∙ a.at_datatype ∙ ap (λ e. a_datatype e args) d)
-
-pub holds_out : {G : Sc} {s j : ℕ} {t held : Cn} {c b : Cd} {args more : List Cn} → AtData G s j t c args → AtData G s j t b more → c.holds ≡ Some held → b.holds ≡ None → ⊥
-holds_out x y h k = let (e, a) = one_constructor x y in no_value (ap (λ (z : Cd). z.holds) e ∙ k) h
-
-none_left : {c : Cn} {cs : List Cn} → c ∷ cs ≡ [] → ⊥
-none_left e = cc
 
 mutual
   pub pattern_out : {G : Sc} {q : Pt} {t : Cn} {ts : List Cn} {f : Fault} → PatFault G q t f → PatFound G q t ts → ⊥

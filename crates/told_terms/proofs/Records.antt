@@ -25,6 +25,7 @@ use Rattle.told_faults.specs.Told.{TypeIs, Verdict, Picks, Nodes, Least, Or, or_
 use Rattle.told_faults.proofs.Parts.{kind_is, picks_flaw}
 use Rattle.told_faults.proofs.Verdict.{picks_two, picks_as, picks_never, least_as, least_nowhere}
 use Rattle.node_rules.specs.Records.{Rw, no_fields_yet, with_value, with_named, with_kinded, is_kinded, with_field, of_whole, of_row}
+use Rattle.node_rules.proofs.Listed.{rebuilt}
 use Rattle.judged_terms.specs.Listed.{fields_found, of_record}
 use Rattle.told_terms.proofs.Wanted.{FieldsTold, Here, here_is}
 use Rattle.told_terms.proofs.Verdicts.{whole}
@@ -198,10 +199,6 @@ with_kind G p a fs kids named ps l h x (unkind {w = w} e) = whole G (node p a (f
   where
     none : (t : Cn) → Found G (node p a (fields_of fs)) t → ⊥
     none t (fields_have y k) = kind_out (subst (λ z. HasKind G (type_row z) (row_of types)) (one_row y x) k) (lacks {p = p} e)
-
-rebuilt : (ps : Prs) → pairs_from (pair_list ps) ≡ ps
-rebuilt no_pairs = refl
-rebuilt (pair n v ps) = ap (pair n v) (rebuilt ps)
 
 with_pairs : (G : Sc) (p : Place) (a : Bool) (fs : Fds) (kids named : Option Fault) (ps qs : Prs) → ps ≡ qs → Least (Sub G (node p a (fields_of fs))) kids → Picks (FieldFault G fs) named → FieldsFound no_cover G fs qs → Verdict G (node p a (fields_of fs)) (of_whole G p kids named (type_row ps) (judged_at G.kinds (type_row ps) (row_of types)))
 with_pairs G p a fs kids named ps qs i l h x = with_kind G p a fs kids named ps l h (subst (λ z. FieldsFound no_cover G fs z) (sym i) x) (kind_is G (type_row ps) (row_of types))

@@ -1,6 +1,7 @@
 -- A type that has a normal form is never nested deeper than there is room for, so that what links carry is told to be
 -- carried.
 use Rattle.std.proofs.Common.{◌≡◌, ℕ, zero, suc, ◌<◌, ◌≤◌, max, Bool, true, false, not, ◌&&◌, ◌||◌, List, [], ◌∷◌, Option, Some, None, if◌then◌else◌, refl, ap, sym, ◌∙◌, subst, arith}
+use Rattle.std.proofs.lemmas.Bool.{not-true as not_true}
 use Rattle.con_terms.specs.Trees.{Kd, types, Cn, var, basic, record_of, app, row, Prs, no_pairs, pair}
 use Rattle.con_terms.specs.Same.{kd_eq}
 use Rattle.con_terms.specs.Size.{depth, depth_pairs}
@@ -15,7 +16,7 @@ use Rattle.row_normal.proofs.Options.{both_from, neither_from}
 use Rattle.row_normal.proofs.Contexts.{shallow}
 use Rattle.row_normal.proofs.Leaving.{some_depth}
 use Rattle.row_normal.proofs.SameTrees.{cn_eq_same, cn_eq_refl}
-use Rattle.row_normal.proofs.NormalStays.{normal_told, told_normal}
+use Rattle.row_normal.proofs.NormalStays.{normal_told, told_normal, four}
 use Rattle.row_normal.proofs.PiecesWritten.{written_in_order}
 use Rattle.kind_rules.specs.Compared.{comparison_units}
 use Rattle.core_terms.specs.Trees.{Dt}
@@ -25,9 +26,11 @@ use Rattle.core_typing.specs.Seen.{Seen, a_number, a_text, a_datatype, a_record,
 use Rattle.core_typing.specs.Carried.{Carried}
 use Rattle.core_typing.proofs.Matched.{seen_as}
 use Rattle.core_typing.proofs.Normal.{normal_from}
+use Rattle.core_typing.proofs.LeftOver.{inside}
 use Rattle.carried_types.specs.Built.{is_carrier, both, all_by, is_name, field_by, fields_by, row_by, seen_by, normal_by, type_by, built, nested, or_no, can_carry}
 use Rattle.carried_types.specs.Carriers.{AreCarriers}
 use Rattle.carried_types.proofs.Marks.{carried_decided}
+use Rattle.carried_types.proofs.BuiltMeans.{built_more}
 use Rattle.markup_rules.proofs.Basics.{some_none}
 
 -- no step, no eta redex and no row out of order is left, and it isn't deeper than this
@@ -36,10 +39,6 @@ pub record Fine (room : ℕ) (n : Cn) : Type 0 where
   pub no_eta : has_eta n ≡ false
   pub order : ordered n ≡ n
   pub fits : depth n ≤ room
-
-not_true : (a : Bool) → not a ≡ true → a ≡ false
-not_true true h = cc
-not_true false h = refl
 
 within : (n : Cn) → deeper limit n ≡ false → depth n ≤ limit
 within n h = grind (arith, h)
@@ -60,13 +59,6 @@ by_walks n h =
 pub normal_fine : (t n : Cn) → normal_of t ≡ Some n → Fine limit n
 normal_fine t n h = let (l, e) = normal_from (nf comparison_units t) n h in by_walks n (normal_told comparison_units l t n e)
 
-four : (a b c d : Bool) → a ≡ false → b ≡ false → c ≡ true → d ≡ false → (not a && (not b && (c && not d))) ≡ true
-four false false true false h g e k = refl
-four true b c d h g e k = cc
-four false true c d h g e k = cc
-four false false false d h g e k = cc
-four false false true true h g e k = cc
-
 some_units : 0 < comparison_units
 unfolding comparison_units
 some_units = omega arith
@@ -85,9 +77,6 @@ looser : {r s : ℕ} {n : Cn} → r ≤ s → Fine r n → Fine s n
 looser {r} {s} {n} l f = record { ended = f.ended; no_eta = f.no_eta; order = f.order; fits = let h = f.fits in omega (arith, l, h) }
 
 -- what a record is of
-inside : {a b : Cn} → record_of a ≡ record_of b → a ≡ b
-inside h = cc
-
 record_part : {r : ℕ} {a : Cn} → Fine (suc r) (record_of a) → Fine r a
 record_part {r} {a} f = record {
   ended = f.ended;
@@ -192,10 +181,6 @@ normal_answer : (r : ℕ) (f : Cn → Option Bool) (ds : List Dt) (bs : List Boo
 normal_answer r f ds bs k g (var i) x h = some_none h
 normal_answer r f ds bs k g (record_of c) x h = row_answer r f g c (looser (let i : r ≤ suc r = omega arith in i) (record_part x)) h
 normal_answer r f ds bs k g n x h = seen_answer r f ds bs g n x (seen ds n) refl h
-
-built_more : (r : ℕ) (ds : List Dt) (bs : List Bool) (k : ℕ) (t : Cn) → built (suc r) ds bs k t ≡ type_by (built r ds bs k) ds bs k (normal_of t)
-unfolding built
-built_more r ds bs k t = refl
 
 -- of a normal form, where the room is no less than it is deep
 built_answer : (r : ℕ) (ds : List Dt) (bs : List Bool) (k : ℕ) → r ≤ limit → Answers r (built r ds bs k)

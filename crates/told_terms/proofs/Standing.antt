@@ -1,6 +1,6 @@
 -- Where an element stands, its rows, its field's name and its action: what is told of them, by its sort.
 use Rattle.std.proofs.Common.{◌≡◌, Bool, true, false, Option, Some, None, Result, Ok, Err, refl, subst}
-use Rattle.con_terms.specs.Trees.{Kd, types, units, names, row_of, Cn, unit_con}
+use Rattle.con_terms.specs.Trees.{Kd, names, Cn, unit_con}
 use Rattle.con_terms.specs.declared.place.Place.{Place}
 use Rattle.kind_rules.specs.Flaws.{Flw}
 use Rattle.kind_rules.specs.Kinding.{judged_at}
@@ -25,11 +25,12 @@ use Rattle.told_faults.proofs.Parts.{at_one, picks_wants, kind_is, picks_flaw}
 use Rattle.judgements.specs.Comparisons.{are_alike}
 use Rattle.carried_types.proofs.Alike.{alike_is, is_alike}
 use Rattle.markup_rules.specs.Attributes.{stands_among}
-use Rattle.markup_rules.specs.Standing.{Ar, within_form, no_form, elsewhere, around_by, around_of, context_told, elsewhere_told, stands_by, rows_told, other_name, other_name_of, name_by, name_told}
+use Rattle.markup_rules.specs.Standing.{Ar, within_form, no_form, elsewhere, around_by, around_of, context_told, elsewhere_told, stands_by, other_name, other_name_of, name_by, name_told}
 use Rattle.markup_rules.specs.Elements.{unless_action, action_by}
-use Rattle.markup_rules.proofs.Basics.{some_none, first_parts, alike, kinded}
+use Rattle.markup_rules.proofs.Basics.{some_none, first_parts, alike}
 use Rattle.markup_rules.proofs.ContentIs.{Around, around_form, around_none, stands_there, no_name, Named, named}
 use Rattle.markup_rules.proofs.AttributesAre.{has_attribute}
+pub use Rattle.markup_rules.proofs.Found.{rows_are}
 use Rattle.told_terms.proofs.Tests.{refused}
 use Rattle.told_terms.proofs.Attributes.{attribute_stands}
 
@@ -116,12 +117,6 @@ stands_is G p w c u a_form h =
     (alike G p (context_row in_body false) c x, alike G p no_types u y)
 stands_is G p w c u (an_input t) h = alike G p (context_row in_body true) c h
 stands_is G p w c u a_button h = alike G p (context_row in_body true) c h
-
--- its rows have their kinds
-pub rows_are : (G : Sc) (p : Place) (c u : Cn) → rows_told G p c u ≡ None → HasKind G c (row_of units) × HasKind G u (row_of types)
-rows_are G p c u h =
-    let (x, y) = first_parts (flawed G p (judged_at G.kinds c (row_of units))) (flawed G p (judged_at G.kinds u (row_of types))) h in
-    (kinded G p c (row_of units) x, kinded G p u (row_of types) y)
 
 -- the name of its field, on another tag than an input's
 pub data OtherName (G : Sc) (q : Place) (n : Cn) : Fault → Type 0 where

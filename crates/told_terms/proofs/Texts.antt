@@ -9,6 +9,7 @@ use Rattle.row_normal.specs.SameTree.{cn_eq}
 use Rattle.core_terms.specs.Trees.{Pt, pattern, Pf, any, binds, is_number, is_text, is_bare, is_holding, has_fields, annotated, Pfs, no_pat_fields, pat_field}
 use Rattle.core_typing.specs.Scopes.{normal_of}
 use Rattle.core_typing.specs.Cover.{Shp, leaf, number_shape, text_shape, bare_shape, holding_shape, record_shape, Shf, no_shape_fields, shape_field, shape_at, shape_named, takes, form_takes, fields_take, one_takes}
+use Rattle.judged_terms.proofs.Cases.{false_not as not_among}
 
 abbrev pub Words : Type 0
 Words = List (List ℕ)
@@ -130,9 +131,6 @@ not_equal t w n = by_test (bytes_eq t w) refl
     by_test : (b : Bool) → bytes_eq t w ≡ b → b ≡ false
     by_test true e = absurd (n ((bytes_eq-Decides t w).0 e))
     by_test false e = refl
-
-not_among : {b : Bool} → b ≡ false → b ≡ true → ⊥
-not_among h k = cc
 
 text_by : (ws : Words) (t w : List ℕ) (b : Bool) → among w ws ≡ b → among t ws ≡ true → bytes_eq t (if b then w else another ws) ≡ bytes_eq t w
 text_by ws t w true e h = refl

@@ -11,12 +11,12 @@ const LONGEST_FILE: usize = 4194304;
 /// What is told of a run that ended with this status, where the status says all.
 pub(crate) fn advice(status: u8) -> &'static str {
     match status {
-        2 =>
-            "urweb: these words are no command: urweb --help shows what is (page reads its input: urweb page < hello.ur)\n",
+        2 => "urweb: these words are no command: urweb --help shows what is \
+             (page reads its input: urweb page < hello.ur)\n",
         3 => "urweb: the input, or a file of the project, could not be read\n",
         4 => "urweb: the output could not be written, or not to its end\n",
-        5 =>
-            "urweb: there was not enough memory, or a chain of operators or arguments is too long (about 1100 are the most)\n",
+        5 => "urweb: there was not enough memory, or a chain of operators or arguments \
+             is too long (about 1100 are the most)\n",
         _ => "",
     }
 }
@@ -24,15 +24,15 @@ pub(crate) fn advice(status: u8) -> &'static str {
 /// What is told of a run that stops without a page, by the name that its line has.
 fn told_of_run(name: &str) -> &'static str {
     match name {
-        "NoRoute" =>
-            "urweb: the module has no `main` that an address can ask for a page: write fun main () : transaction page = return <xml>..</xml>\n",
+        "NoRoute" => "urweb: the module has no `main` that an address can ask for a page: \
+             write fun main () : transaction page = return <xml>..</xml>\n",
         "DivZero" => "urweb: a number is divided by zero\n",
         "OverBudget" => "urweb: the page takes more than 1000000 steps\n",
         "TextTooLong" => "urweb: a text is longer than 1048576 bytes\n",
         "LinkTooLong" => "urweb: a link is longer than 8192 bytes\n",
         "PageTooLong" => "urweb: the page is longer than 16777216 bytes\n",
-        "NotBlessed" =>
-            "urweb: no rule allows an address on this page: rules stand in a project file, and `page` knows no project\n",
+        "NotBlessed" => "urweb: no rule allows an address on this page: \
+             rules stand in a project file, and `page` knows no project\n",
         "Aborted" => "urweb: the page called `error`\n",
         "TooDeep" => "urweb: more than 256 calls are nested in one another\n",
         "OtherMethod" => "urweb: `main` takes a form, which an address alone can't send\n",

@@ -5,6 +5,7 @@ use Rattle.table_rows.specs.Wires.{Wr, rec_of, tagged, Wrs, no_wires, wire}
 use Rattle.core_terms.specs.Trees.{Dt}
 use Rattle.value_trees.specs.Values.{V, of_fields, of_holding, Slots, no_slots, slot, slots_and}
 use Rattle.core_meaning.specs.Wired.{Known, HasValue, record_is, tagged_is, no_values_of, value_of}
+use Rattle.run_values.proofs.Fields.{and_no_slots}
 use Rattle.wire_values.specs.Amid.{Waiting, fields, holds, Completes, Amid, wants, fills, has, LeadsTo}
 
 pub onward : {K : Known} {a b c : Amid} → LeadsTo K a b → LeadsTo K b c → LeadsTo K a c
@@ -35,10 +36,6 @@ value_comes {v = v} r = record { comes = λ u g. (v, r, g) }
 -- a record's fields are wanted
 pub record_begins : {K : Known} {ls : List Waiting} {ps : Pts} {ws : Wrs} → LeadsTo K (wants ls (a_record ps) (rec_of ws)) (fills ls no_slots ps ws)
 record_begins = record { comes = λ u g. (of_fields g.0, record_is g.1, g.2) }
-
-pub and_no_slots : (ss : Slots) → slots_and ss no_slots ≡ ss
-and_no_slots no_slots = refl
-and_no_slots (slot y v ss) = ap (slot y v) (and_no_slots ss)
 
 pub slots_and_one : (ss : Slots) (x : ℕ) (v : V) (us : Slots) → slots_and (slots_and ss (slot x v no_slots)) us ≡ slots_and ss (slot x v us)
 slots_and_one no_slots x v us = refl

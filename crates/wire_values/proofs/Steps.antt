@@ -1,5 +1,6 @@
 -- The steps of a making, over what its parts stand for.
-use Rattle.std.proofs.Common.{◌≡◌, ℕ, List, [], ◌∷◌, ◌++◌, map, length, Option, Some, None, slice_get, Box, Global, Bor, refl, ap, sym, ◌∙◌}
+use Rattle.std.proofs.Common.{◌≡◌, ℕ, List, [], ◌∷◌, ◌++◌, map, length, Option, Some, None, slice_get, Box, Global, Bor, ap, sym, ◌∙◌}
+use Rattle.std.proofs.lemmas.List.{nil_from_length as nothing_listed}
 use Rattle.con_terms.specs.declared.symbol.Sym.{Sym}
 use Rattle.table_rows.specs.Shapes.{Sh, a_record, a_data, Shs, no_parts, part, Cases, at_arguments, parts_at_arguments}
 use Rattle.table_rows.specs.Wires.{rec_of}
@@ -43,10 +44,6 @@ record_starts {K} {ls} scope parts w ws made xs ys e f g h =
     record_wire w ws e ∙ ap rec_of (wires_tree_is ws ∙ ap (λ (vs : List Wire). wires_from (map wire_tree vs)) (sym h)) in
     leads_to (leads_from (ap (λ ps. wants ls (a_record ps) (wire_tree w)) tree ∙ ap (wants ls (a_record (parts_in xs scope))) wired) record_begins)
     (ap (λ (ss : List Slot). fills ls (slots_tree ss) (parts_in xs scope) (wires_from (map wire_tree ys))) (sym f))
-
-nothing_listed : {X : Type 0} (xs : List X) → length xs ≡ 0 → xs ≡ []
-nothing_listed [] e = refl
-nothing_listed (x ∷ xs) e = absurd (cc)
 
 -- and ends
 pub record_ends : {K : Known} {ls : List Waiting} (made : List Slot) (xs : List Part) (scope : List Closed) (ys : List Wire) (ss : Bor (List Slot)) → length xs ≡ 0 → length ys ≡ 0 → ss.now ≡ made
