@@ -21,15 +21,13 @@ ghost use Rattle.type_faults.specs.View.{maybe_fault};
 use crate::lists::{with_named, with_names};
 use crate::terms::{judge, judge_names};
 use crate::top::{globals_at_start, top_scope};
-use con_terms::con::Con;
-use con_terms::kind::Kind;
-use con_terms::symbol::Sym;
+use con_terms::{Con, Kind, Sym};
 use core_terms::{
     ConDecl, Constructor, Constructors, Datatype, Decl, MOST_NESTED, Named, NamedList, Program,
     Symbols, Thing,
 };
 use judgements::{Globals, Here, Judged, copied, kind_flaw, under_con, with_locals};
-use match_cover::declared::copy_datatype;
+use match_cover::copy_datatype;
 use node_rules::{Found, and_then_found, none_yet};
 use std::alloc::{AllocError, Global};
 use type_faults::{Fault, Twice};

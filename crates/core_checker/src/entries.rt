@@ -11,10 +11,9 @@ ghost use Rattle.core_checker.specs.Keys as keys;
 ghost use Rattle.core_checker.specs.Twice.{all_places, decl_places, named_places};
 ghost use Rattle.core_checker.specs.Twice.{CalledAt, NameAt, SameCall, SecondEntry, ToldTwice, Twice as TwiceAt};
 
-use con_terms::place::Place;
-use con_terms::symbol::SymTable;
+use con_terms::{Place, SymTable};
 use core_terms::{Decl, Named, NamedList, Program};
-use link_router::routes::Entry;
+use link_router::Entry;
 use site_routes::routes;
 use std::alloc::{AllocError, Global};
 use table_rows::{Text, Texts};

@@ -10,7 +10,7 @@ ghost use Rattle.node_rules.specs.View.{found_tree, past_tree, row_tree};
 ghost use Rattle.type_faults.specs.View.{maybe_fault};
 
 use crate::places::{field_name, field_place, named_con, named_term, term_place, type_stands};
-use con_terms::place::Place;
+use con_terms::Place;
 use core_terms::{Field, Fields, Item, Items, Named, NamedList};
 use judgements::{Globals, Here, Judged};
 use markup_rules::Judgements;

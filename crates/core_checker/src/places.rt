@@ -7,8 +7,7 @@ ghost use Rattle.core_typing.specs.Own.{place_of, type_place};
 ghost use Rattle.markup_rules.specs.Elements as elements;
 ghost use Rattle.markup_rules.specs.View.{element_tree, literal_tree};
 
-use con_terms::con::Con;
-use con_terms::place::Place;
+use con_terms::{Con, Place};
 use core_terms::{
     Attribute, Attributes, Branch, Element, Exp, Field, Literal, Named, Node, Nodes, Pat,
 };

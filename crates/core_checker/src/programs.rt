@@ -9,7 +9,7 @@ ghost use Rattle.type_faults.specs.View.{maybe_fault};
 
 use crate::told::fault_told;
 use core_terms::Program;
-use core_typing::laws::what_is_found_is_accepted;
+use core_typing::what_is_found_is_accepted;
 use program_forms::is_formed;
 use std::alloc::{AllocError, Global};
 use type_faults::Fault;

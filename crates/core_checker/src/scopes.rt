@@ -14,8 +14,7 @@ ghost use Rattle.node_rules.specs.View.{found_tree};
 
 use crate::lists::{with_named, with_names};
 use crate::places::named_con;
-use con_terms::con::Con;
-use con_terms::place::Place;
+use con_terms::{Con, Place};
 use core_terms::{MOST_NESTED, Named, NamedList, Pat};
 use judgements::{
     Bound, Globals, Here, Judged, copied, flaw_at, under_guard, with_local, with_locals,

@@ -14,9 +14,7 @@ ghost use Rattle.pattern_rules.specs.View.{branch_tree};
 ghost use Rattle.type_faults.specs.View.{maybe_fault};
 
 use crate::places::branch_pattern;
-use con_terms::con::Con;
-use con_terms::kind::Kind;
-use con_terms::place::Place;
+use con_terms::{Con, Kind, Place};
 use core_terms::{Branch, Branches, Pat};
 use judgements::{Globals, Here, Judged, faulty, has_kind};
 use match_cover::Asked;

@@ -29,10 +29,7 @@ use crate::scopes::{
     Behind, Inner, before_all, behind_value, behind_values, under_names, under_pattern, under_sides,
 };
 use crate::singles::{of_parameter, of_typed, shape_missed};
-use con_terms::con::Con;
-use con_terms::kind::Kind;
-use con_terms::place::Place;
-use con_terms::symbol::Sym;
+use con_terms::{Con, Kind, Place, Sym};
 use core_terms::{
     Branch, Branches, Element, Exp, Exps, Fields, Form, Items, Literal, Local, Locals, NamedList,
     Pat,

@@ -12,10 +12,10 @@ ghost use Rattle.type_faults.specs.View.{maybe_fault};
 use crate::declarations::declarations_found;
 use crate::entries::entries_told;
 use core_terms::Program;
-use judged_terms::laws::declared_are_found;
+use judged_terms::declared_are_found;
 use node_rules::Found;
 use std::alloc::{AllocError, Global};
-use told_terms::laws::judged_is_told;
+use told_terms::judged_is_told;
 use type_faults::{Fault, first};
 
 /// What is told; where nothing is told though not all is found, a type is too large to be found.

@@ -9,15 +9,13 @@ ghost use Rattle.core_terms.specs.View.{datatype_view, folder_view, program_view
 ghost use Rattle.core_typing.specs.Scopes.{basis_kinds, datatype_kinds, folder_kinds};
 ghost use Rattle.kind_rules.specs.View.{basic_tree};
 
-use con_terms::kind::{Kind, copy_kind};
-use con_terms::symbol::Sym;
+use con_terms::{Kind, Sym, copy_kind};
 use core_terms::{Datatype, FolderName, Program};
 use judgements::{Called, Globals, Here, Locals};
-use kind_rules::scope::{Basic, Scope};
+use kind_rules::{Basic, Scope};
 use std::alloc::{AllocError, Global};
 use std::rc::Rc;
-use type_makers::forms::{arrow_kind, row_kind};
-use type_makers::{basis_datatypes, symbols};
+use type_makers::{arrow_kind, basis_datatypes, row_kind, symbols};
 
 /// A type's name with its kind.
 fn named(name: Sym, kind: Kind) -> Basic

@@ -9,8 +9,7 @@ ghost use Rattle.plain_tree.specs.View.{interface_view, plain_view};
 ghost use Rattle.desugar.specs.Plain.{interface_of, plain_of};
 
 use crate::reading::read;
-use desugar_terms::decls::decls_of;
-use desugar_terms::signed::signeds_of;
+use desugar_terms::{decls_of, signeds_of};
 use plain_tree::{Interface, Plain};
 use std::alloc::{AllocError, Global};
 use surface_grammar::Tree;

@@ -3,9 +3,7 @@ ghost use Rattle.std.specs.Prelude.{◌≡◌, IfOk};
 ghost use Rattle.desugar_values.specs.View.{meaning_tree, meanings_tree};
 ghost use Rattle.desugar.specs.Plain.{built};
 
-use desugar_terms::decl_rules::build_decl;
-use desugar_terms::markup_rules::build_markup;
-use desugar_terms::term_rules::build_term;
+use desugar_terms::{build_decl, build_markup, build_term};
 use desugar_types::{build_con, build_kind, build_pat};
 use desugar_values::{Meaning, Meanings};
 use std::alloc::{AllocError, Global};

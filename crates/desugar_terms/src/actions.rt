@@ -7,10 +7,9 @@ ghost use Rattle.desugar_terms.specs.Actions.{bound, bound_rest, exp_bind, exp_p
 
 use crate::boxes::{boxed_exp_of, boxed_pat, boxed_pat_of, next_exp};
 use crate::made::{call_two, one_parameter, term_at};
-use desugar_types::boxes::both;
+use desugar_types::both;
 use desugar_types::parameters::parameters;
-use desugar_values::parts::start_of;
-use desugar_values::{Meaning, Meanings};
+use desugar_values::{Meaning, Meanings, start_of};
 use plain_tree::{Basis, Exp, Form, Pat, PatFields, PatForm};
 use std::alloc::{AllocError, Global};
 

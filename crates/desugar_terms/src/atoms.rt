@@ -9,9 +9,8 @@ use crate::lists::{locals_made, nodes_made};
 use crate::locals::local_of;
 use crate::made::term_at;
 use crate::nodes::nodes_of;
-use desugar_types::boxes::both;
-use desugar_values::parts::number;
-use desugar_values::{Meaning, Meanings};
+use desugar_types::both;
+use desugar_values::{Meaning, Meanings, number};
 use plain_tree::{Exp, Form, Local, Node};
 use std::alloc::{AllocError, Global};
 

@@ -7,9 +7,8 @@ ghost use Rattle.desugar_terms.specs.Branches.{branch_of, branches_of, choice, m
 
 use crate::boxes::next_exp;
 use crate::made::term_at;
-use desugar_types::boxes::{both, one_of};
-use desugar_values::parts::{group_of, pat_of, start_of};
-use desugar_values::{Meaning, Meanings};
+use desugar_types::{both, one_of};
+use desugar_values::{Meaning, Meanings, group_of, pat_of, start_of};
 use plain_tree::{BasisBuilder, Branch, Branches, Builder, Exp, Form, Pat, PatForm};
 use std::alloc::{AllocError, Global};
 

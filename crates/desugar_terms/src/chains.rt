@@ -7,9 +7,8 @@ ghost use Rattle.desugar_terms.specs.Chains.{chain, chain_from, is_none, link_of
 use crate::boxes::boxed_exp_of;
 use crate::lists::links_made;
 use crate::made::term_at;
-use desugar_types::boxes::both;
-use desugar_values::parts::{con_of, exp_of, group_of, start_of};
-use desugar_values::{Meaning, Meanings};
+use desugar_types::both;
+use desugar_values::{Meaning, Meanings, con_of, exp_of, group_of, start_of};
 use plain_tree::{Form, Infix, Link};
 use std::alloc::{AllocError, Global};
 use surface_tree::Kind;

@@ -6,8 +6,7 @@ ghost use Rattle.desugar_terms.specs.Dots.{chain, dot_of, dots_of, with_dots, wi
 
 use crate::boxes::boxed_exp;
 use crate::lists::links_made;
-use desugar_values::words::field_name;
-use desugar_values::{Meaning, Meanings};
+use desugar_values::{Meaning, Meanings, field_name};
 use plain_tree::{Exp, Form, Link};
 use std::alloc::{AllocError, Global};
 

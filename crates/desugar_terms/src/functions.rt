@@ -6,8 +6,8 @@ ghost use Rattle.desugar_values.specs.View.{meaning_tree, meanings_tree};
 ghost use Rattle.desugar_terms.specs.Functions.{behind_function, body, function, typed};
 
 use crate::boxes::{boxed_exp, next_exp};
-use desugar_types::boxes::both;
-use desugar_types::parameters::{args_start, parameters};
+use desugar_types::parameters::parameters;
+use desugar_types::{args_start, both};
 use desugar_values::{Meaning, Meanings};
 use plain_tree::{Exp, Form, Named};
 use std::alloc::{AllocError, Global};

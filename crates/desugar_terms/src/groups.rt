@@ -5,10 +5,8 @@ ghost use Rattle.desugar_values.specs.View.{meaning_tree, meanings_tree};
 ghost use Rattle.desugar_terms.specs.Groups.{component_of, components_of, in_brackets, parens, tuple, tuple_field, tuple_fields, typed, unit};
 
 use crate::made::term_at;
-use desugar_types::boxes::two_of;
-use desugar_values::parts::{exp_of, start_of};
-use desugar_values::words::component;
-use desugar_values::{Meaning, Meanings};
+use desugar_types::two_of;
+use desugar_values::{Meaning, Meanings, component, exp_of, start_of};
 use plain_tree::{Exp, Field, Fields, Form};
 use std::alloc::{AllocError, Global};
 use surface_tree::Kind;

@@ -28,3 +28,9 @@ pub mod signed;
 pub mod tables;
 pub mod term_rules;
 pub mod types;
+
+pub use decl_rules::build_decl;
+pub use decls::decls_of;
+pub use markup_rules::build_markup;
+pub use signed::signeds_of;
+pub use term_rules::build_term;

@@ -8,9 +8,8 @@ ghost use Rattle.desugar_terms.specs.Functions.{function};
 ghost use Rattle.desugar_terms.specs.Locals.{function_group, functions, local_by, local_of, mark_type, plain_value, typed_value, typed_values, value, value_group};
 
 use crate::functions::function;
-use desugar_types::boxes::one_of;
-use desugar_values::parts::{group_of, named};
-use desugar_values::{Meaning, Meanings};
+use desugar_types::one_of;
+use desugar_values::{Meaning, Meanings, group_of, named};
 use plain_tree::{Con, Local, Named, NamedList};
 use std::alloc::{AllocError, Global};
 use surface_tree::{Kind, Token};

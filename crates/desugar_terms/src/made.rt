@@ -7,7 +7,7 @@ ghost use Rattle.desugar_values.specs.View.{meaning_tree};
 ghost use Rattle.desugar_terms.specs.Made.{basis_at, call_one, call_two, one_parameter, term_at};
 
 use crate::boxes::boxed_exp;
-use desugar_types::boxes::{one_of, two_of};
+use desugar_types::{one_of, two_of};
 use desugar_values::Meaning;
 use plain_tree::{Arg, Args, Basis, Exp, Form, Item, Items, Pat};
 use std::alloc::{AllocError, Global};

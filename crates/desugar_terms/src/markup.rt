@@ -12,9 +12,8 @@ use crate::boxes::{boxed_exp, boxed_exp_of, next_exp};
 use crate::lists::{attributes_made, nodes_made};
 use crate::made::call_one;
 use crate::nodes::nodes_of;
-use desugar_types::boxes::both;
-use desugar_values::parts::group_of;
-use desugar_values::{Meaning, Meanings};
+use desugar_types::both;
+use desugar_values::{Meaning, Meanings, group_of};
 use plain_tree::{Attribute, Basis, Con, Exp, Node, Word};
 use std::alloc::{AllocError, Global};
 

@@ -3,8 +3,7 @@ ghost use Rattle.std.specs.Prelude.{◌≡◌, ◌++◌, IfOk};
 ghost use Rattle.desugar_values.specs.View.{meanings_tree};
 ghost use Rattle.desugar_terms.specs.NameLists.{names_of};
 
-use desugar_values::Meanings;
-use desugar_values::parts::{named, word_of};
+use desugar_values::{Meanings, named, word_of};
 use plain_tree::Words;
 use std::alloc::{AllocError, Global};
 

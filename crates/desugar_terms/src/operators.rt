@@ -7,9 +7,8 @@ ghost use Rattle.desugar_terms.specs.Operators.{compare, compare_rest, compared,
 use crate::boxes::{boxed_exp, boxed_exp_of, next_exp};
 use crate::groups::component_of;
 use crate::made::{call_one, call_two, term_at};
-use desugar_types::boxes::{both, two_of};
-use desugar_values::parts::start_of;
-use desugar_values::{Meaning, Meanings};
+use desugar_types::{both, two_of};
+use desugar_values::{Meaning, Meanings, start_of};
 use plain_tree::{Basis, BasisBuilder, Exp, Fields, Form};
 use std::alloc::{AllocError, Global};
 use surface_tree::Kind;

@@ -7,8 +7,7 @@ ghost use Rattle.desugar_terms.specs.Paths.{and_links, finish, go_on, is_lower, 
 
 use crate::boxes::boxed_exp;
 use crate::dots::{dot_of, with_links};
-use desugar_values::parts::{characters, word_of};
-use desugar_values::{Meaning, Meanings};
+use desugar_values::{Meaning, Meanings, characters, word_of};
 use plain_tree::{Exp, Form, Link, Modules, Path, Sigil};
 use std::alloc::{AllocError, Global};
 use surface_tree::Kind;

@@ -7,10 +7,8 @@ ghost use Rattle.desugar_values.specs.View.{meaning_tree, meanings_tree};
 ghost use Rattle.desugar_terms.specs.Records.{exp_fields, field_more, field_term, fields_more, maybe_fields, named_field, record_term};
 
 use crate::made::term_at;
-use desugar_types::boxes::one_of;
-use desugar_values::parts::group_of;
-use desugar_values::words::field_name;
-use desugar_values::{Meaning, Meanings};
+use desugar_types::one_of;
+use desugar_values::{Meaning, Meanings, field_name, group_of};
 use plain_tree::{Con, Exp, Field, Fields, Form};
 use std::alloc::{AllocError, Global};
 

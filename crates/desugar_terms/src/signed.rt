@@ -4,8 +4,7 @@ ghost use Rattle.plain_tree.specs.View.{interface_view, signed_tree};
 ghost use Rattle.desugar_values.specs.View.{meaning_tree, meanings_tree};
 ghost use Rattle.desugar_terms.specs.Signed.{signed_of, signeds_of};
 
-use desugar_values::parts::group_of;
-use desugar_values::{Meaning, Meanings};
+use desugar_values::{Meaning, Meanings, group_of};
 use plain_tree::{Interface, Signed};
 use std::alloc::{AllocError, Global};
 

@@ -6,8 +6,7 @@ ghost use Rattle.desugar_values.specs.View.{meaning_tree, meanings_tree};
 ghost use Rattle.desugar_terms.specs.Tables.{columns, columns_by, key_of, signed, table};
 
 use crate::name_lists::add_names;
-use desugar_values::parts::named;
-use desugar_values::{Meaning, Meanings};
+use desugar_values::{Meaning, Meanings, named};
 use plain_tree::{Cookie, Table, Word, Words};
 use std::alloc::{AllocError, Global};
 use surface_tree::{Kind, Token};

@@ -5,10 +5,9 @@ ghost use Rattle.desugar_values.specs.View.{meaning_tree, meanings_tree};
 ghost use Rattle.desugar_terms.specs.Types.{builder_of, builders_of, con_declared, datatype, type_declared};
 
 use crate::name_lists::add_names;
-use con_terms::kind::Kind;
-use desugar_types::boxes::one_of;
-use desugar_values::parts::{group_of, maybe_kind_of};
-use desugar_values::{Meaning, Meanings};
+use con_terms::Kind;
+use desugar_types::one_of;
+use desugar_values::{Meaning, Meanings, group_of, maybe_kind_of};
 use plain_tree::{Builders, Datatype, DatatypeBuilder, TypeDecl, Words};
 use std::alloc::{AllocError, Global};
 

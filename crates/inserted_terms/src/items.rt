@@ -28,8 +28,7 @@ use crate::instances::{is_instance_of, lacks_instance};
 use crate::types::{Split, past_con, past_guard, taken_apart};
 use con_terms::{Con, Kind, Sym, copy_con, same_kind};
 use core_terms::{Datatype, Decl, Exp, Form, Item, Items, Program};
-use judgements::constructor_named;
-use judgements::locals::look_up;
+use judgements::{constructor_named, look_up};
 use std::alloc::{AllocError, Global};
 use type_makers::{basis_type, constructor_type, fold_type};
 

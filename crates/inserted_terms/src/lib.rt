@@ -20,4 +20,5 @@ pub mod tops;
 mod types;
 pub mod values;
 
+pub use gaps::{NO_FOLDER, NO_INSTANCE};
 pub use programs::inserts_chosen;

@@ -7,7 +7,7 @@ ghost use Rattle.inserted_terms.specs.Asked as asked;
 
 use con_terms::Con;
 use judgements::put;
-use kind_rules::compare::comparison_fuel;
+use kind_rules::comparison_fuel;
 use row_normal::written::reduce;
 use row_normal::{NormalFault, reduce_head};
 use std::alloc::{AllocError, Global};

@@ -4,7 +4,7 @@ use crate::faults::unbound;
 use crate::memory::{maybe_on_heap, on_heap};
 use con_terms::{Con, Kind, Place, copy_kind};
 use core_terms::{BasisName, Exp, Form, Sigil};
-use kind_rules::flaw::Differing;
+use kind_rules::Differing;
 use name_scopes::{ElabFault, KnownBuilder, KnownValue, ValueName};
 use plain_tree::{Basis, BasisBuilder, Infix, Path};
 use std::alloc::{AllocError, Global};

@@ -7,7 +7,7 @@ use crate::memory::{maybe_on_heap, on_heap};
 use crate::types::{boxed_head, boxed_reduced};
 use con_terms::{Con, Cons, Kind, Pairs, Place, Sym};
 use core_terms::{Exp, Form};
-use kind_rules::scope::kind_of_basic;
+use kind_rules::kind_of_basic;
 use name_scopes::{ElabFault, KnownValue, ValueName};
 use row_normal::pieces::pieces;
 use std::alloc::{AllocError, Global};

@@ -5,7 +5,7 @@ use crate::memory::maybe_on_heap;
 use crate::want::Want;
 use con_nodes::{MOST, left_beside, most_units};
 use con_terms::{Con, Kind, has_room, subst};
-use kind_rules::compare::comparison_fuel;
+use kind_rules::comparison_fuel;
 use row_normal::normal::normal;
 use row_normal::written::reduce;
 use row_normal::{Fuel, NormalFault, reduce_head};

@@ -8,8 +8,8 @@ ghost use Rattle.program_elaborator.specs.Causes.{differ as are_different, is_ca
 use crate::fault::{Refusal, memory};
 use crate::program::Source;
 use con_terms::{Kind, same_kind};
-use kind_rules::compare::{Comparison, compare};
-use kind_rules::flaw::Differing;
+use kind_rules::compare::compare;
+use kind_rules::{Comparison, Differing};
 use name_scopes::ElabFault;
 use std::alloc::{AllocError, Global};
 use type_faults::{Fault, Types};

@@ -11,9 +11,8 @@ ghost use Rattle.ur_outside.specs.Causes.{Rose};
 
 use crate::BuildFault;
 use crate::tables::{MOST_TABLES, count_tables};
-use project_files::lines::first_line;
-use project_sources::reading::read_in;
-use project_sources::{ModuleSource, SourceFault};
+use project_files::first_line;
+use project_sources::{ModuleSource, SourceFault, read_in};
 use std::alloc::Global;
 use table_rows::{Text, Texts};
 use ur_outside::{FileFault, Files};

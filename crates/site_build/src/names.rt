@@ -5,7 +5,7 @@ ghost use Rattle.project_sources.specs.Modules.{ModuleTrees, module_file};
 ghost use Rattle.project_sources.specs.View.{ListsModules};
 ghost use Rattle.site_build.specs.Refusals.{IsAt, begins_at};
 
-use con_terms::place::Place;
+use con_terms::Place;
 use project_sources::ModuleSource;
 use std::alloc::{AllocError, Global};
 use surface_tree::Token;
