@@ -33,7 +33,7 @@ pub data Fault : Type 0 where
   -- two kinds, two normal forms that differ: what was wanted, and what was found
   kind_mismatch : Place → Kd → Kd → Fault
   mismatch : Place → List ℕ → Cn → Cn → Fault
-  -- two pieces that aren't separated
+  -- two pieces that aren't separated, closed by the binders of a constructor under which they touch
   not_disjoint : Place → List ℕ → Cn → Cn → Fault
   -- a shape that no pattern takes
   inexhaustive : Place → List ℕ → Shp → Fault

@@ -1,10 +1,11 @@
 -- What the line of a refusal says behind its place: the name of the fault, and behind it what the fault keeps.
 use Rattle.std.specs.Prelude.{◌≡◌, ℕ, Bool, true, false, List, [], ◌∷◌, ◌++◌, codes, ◌⊎◌}
+use Rattle.con_terms.specs.Trees.{Cn, lambda}
 use Rattle.con_terms.specs.declared.place.Place.{Place}
 use Rattle.core_terms.specs.Trees.{Pg}
 use Rattle.core_typing.specs.Faults.{Fault, Unbound, Twice, twice_constructor, twice_attribute, twice_entry, a_variable, a_value, an_effect, a_con_variable, a_symbol, a_constructor, an_attribute, a_folder, an_input_name, at, unbound, kind_mismatch, mismatch, not_disjoint, inexhaustive, redeclared, link_not_call, not_serialisable, too_large, not_built}
 use Rattle.fault_lines.specs.Shapes.{shape_words}
-use Rattle.shown_types.specs.Names.{Known, text_of}
+use Rattle.shown_types.specs.Names.{Known, text_of, new_name}
 use Rattle.shown_types.specs.Programs.{known_of, known_by, texts_of}
 use Rattle.shown_types.specs.Shown.{con_words, differing_words, kind_words}
 use Rattle.shown_types.specs.Words.{spaced}
@@ -47,6 +48,12 @@ twice_word g (twice_constructor s) = text_of g s
 twice_word g (twice_attribute name) = attribute_text name
 twice_word g (twice_entry parts) = slashed true parts
 
+-- Two pieces of rows, over what variables are called. A piece is no function: where both are, they are closed by a
+-- binder under which they touch, which isn't printed; its variable gets a name as that of a printed binder does.
+abbrev pub touching_words : Known → List (List ℕ) → Cn → Cn → List (List ℕ)
+touching_words g called (lambda k l) (lambda j r) = touching_words g (new_name called k ∷ called) l r
+touching_words g called l r = con_words g called 0 l ++ con_words g called 0 r
+
 -- The text of a fault that the checker tells, over what is known of the program: its name, alone where the fault keeps
 -- nothing; behind it two kinds or types that differ, two pieces of rows that aren't separated, a shape that no pattern
 -- takes, or a name that is declared twice.
@@ -58,8 +65,7 @@ IsTextOf g (mismatch p called wanted found) text =
     text ≡ codes "Mismatch"
     ++ spaced (differing_words (con_words g (texts_of g called) 0 wanted) (con_words g (texts_of g called) 0 found))
 IsTextOf g (not_disjoint p called left right) text =
-    text ≡ codes "NotDisjoint"
-    ++ spaced (con_words g (texts_of g called) 0 left ++ con_words g (texts_of g called) 0 right)
+    text ≡ codes "NotDisjoint" ++ spaced (touching_words g (texts_of g called) left right)
 IsTextOf g (inexhaustive p called shape) text =
     text ≡ codes "Inexhaustive" ++ spaced (shape_words g (texts_of g called) true shape)
 IsTextOf g (redeclared p name) text = text ≡ codes "Redeclared " ++ twice_word g name

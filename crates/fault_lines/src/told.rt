@@ -2,7 +2,7 @@
 ghost use Rattle.std.specs.Prelude.{◌≡◌, ◌++◌, true, codes, string_bytes, IfOk};
 ghost use Rattle.con_terms.specs.View.{con_tree};
 ghost use Rattle.core_terms.specs.View.{program_view, symbols_view};
-ghost use Rattle.fault_lines.specs.Lines.{IsMissingText, IsTextOf, IsToldBy, IsToldOf, IsToldOfElaboration, IsToldOver, IsUnboundText};
+ghost use Rattle.fault_lines.specs.Lines.{IsMissingText, IsTextOf, IsToldBy, IsToldOf, IsToldOfElaboration, IsToldOver, IsUnboundText, touching_words};
 ghost use Rattle.fault_lines.specs.Shapes.{shape_words};
 ghost use Rattle.shown_types.specs.Programs.{texts_of};
 ghost use Rattle.shown_types.specs.Shown.{con_words, differing_words};
@@ -12,13 +12,14 @@ ghost use Rattle.type_faults.specs.View.{fault_tree, name_tree, shape_tree};
 
 use crate::names::with_twice;
 use crate::shapes::with_shape_behind;
-use con_terms::Place;
+use con_terms::{Con, Place};
 use core_terms::{Program, Symbols};
 use disjoint_prover::fault::Pieces;
 use inserted_terms::gaps::{NO_FOLDER, NO_INSTANCE};
 use name_scopes::ElabFault;
 use shown_types::{
-    Known, called_by, differing_kinds, differing_types, folders_of, two_types, types_of,
+    Known, called_by, differing_kinds, differing_types, folders_of, inside, new_name, two_types,
+    types_of,
 };
 use std::alloc::{AllocError, Global};
 use table_rows::Texts;
@@ -46,13 +47,33 @@ fn mismatch(known: &Known<'_>, called: &Symbols, types: &Types) -> Result<String
 /// The text of two pieces that aren't separated.
 fn not_disjoint(known: &Known<'_>, called: &Symbols, pieces: &Pieces) -> Result<String, AllocError>
     ensures { IfOk result (λ text. string_bytes text ≡ codes "NotDisjoint" ++ spaced
-        (con_words (known_view known.now) (texts_of (known_view known.now) (symbols_view called.now)) 0
-        (con_tree pieces.now.left)
-        ++ con_words (known_view known.now) (texts_of (known_view known.now) (symbols_view called.now)) 0
-        (con_tree pieces.now.right))) }
+        (touching_words (known_view known.now) (texts_of (known_view known.now) (symbols_view called.now))
+        (con_tree pieces.now.left) (con_tree pieces.now.right))) }
 {
     let called = called_by(known, called)?;
-    two_types(known, &called, "NotDisjoint", &pieces.left, &pieces.right)
+    touching(known, &called, &pieces.left, &pieces.right)
+}
+
+/// The text of two pieces that aren't separated. `called` is what the variables in scope are called, the innermost
+/// first. Where both are functions, they are closed by a binder under which they touch: its variable gets a name.
+#[cycle(touching)]
+fn touching(
+    known: &Known<'_>,
+    called: &Texts,
+    left: &Con,
+    right: &Con,
+) -> Result<String, AllocError>
+    ensures { IfOk result (λ text. string_bytes text ≡ codes "NotDisjoint" ++ spaced
+        (touching_words (known_view known.now) called.now (con_tree left.now) (con_tree right.now))) }
+{
+    match (left, right) {
+        (Con::Lambda(kind, left), Con::Lambda(_, right)) => {
+            let name = new_name(known.alloc, called, kind)?;
+            let called = inside(known.alloc, name, called)?;
+            touching(known, &called, left, right)
+        }
+        _ => two_types(known, called, "NotDisjoint", left, right),
+    }
 }
 
 /// The text of a shape that no pattern takes.

@@ -13,17 +13,17 @@ use Rattle.disjoint_prover.specs.Separation.{first_touch}
 use Rattle.disjoint_prover.proofs.Touching.{touch_told}
 use Rattle.disjoint_prover.proofs.Sound.{contains_head, contains_tail}
 use Rattle.row_normal.specs.NormalForm.{limit, nf}
-use Rattle.kind_rules.specs.Causes.{Stands, itself, left_of_arrow, right_of_arrow, in_poly, left_of_guard, right_of_guard, under_guard, in_record, in_function, in_argument, in_lambda, in_row, left_of_cat, right_of_cat, in_tuple, in_proj, StandsInComponent, in_first, in_later, StandsInField, in_name, in_value, in_later_field, Before, first, later, Separates, sides, names as of_names, Normalises, to_separate, to_assume, IsRefused, TouchAmong, LargeAmong, CausedBy, Caused, HasCause}
+use Rattle.kind_rules.specs.Causes.{Stands, itself, left_of_arrow, right_of_arrow, in_poly, left_of_guard, right_of_guard, under_guard, in_record, in_function, in_argument, in_lambda, in_row, left_of_cat, right_of_cat, in_tuple, in_proj, StandsInComponent, in_first, in_later, StandsInField, in_name, in_value, in_later_field, Before, first, later, Separates, sides, names as of_names, Normalises, to_separate, to_assume, IsRefused, TouchAmong, Parts, LargeAmong, CausedBy, Caused, HasCause}
 use Rattle.kind_rules.specs.Compared.{comparison_units, with_second, with_first, normal_forms, touch_flaw, forms_flaw, not_apart, not_apart_from, not_pairwise_apart}
 use Rattle.kind_rules.specs.Faults.{IsOfComparison, Refuses}
-use Rattle.kind_rules.specs.Flaws.{Flw, unbound_variable, unbound_basic, kinds_differ, pieces_touch, too_large}
+use Rattle.kind_rules.specs.Flaws.{Flw, unbound_variable, unbound_basic, kinds_differ, pieces_touch, too_large, closed_by}
 use Rattle.kind_rules.specs.Kinding.{kinding, kinding_all, kinding_fields, judged}
 use Rattle.kind_rules.specs.declared.fault.KindFault.{KindFault}
 use Rattle.kind_rules.specs.declared.fault.KindFault.TheVariants.{Unbound, KindMismatch, NotDisjoint, TooLarge, Memory}
 use Rattle.kind_rules.proofs.Sound.{follows}
 use Rattle.kind_rules.proofs.Told.{Holds}
 use borrow.Author.Tests.{ltb-true}
-use Rattle.kind_rules.specs.Rules.{and_then, unless, or_flaw, both, unlike, expects, expects_row, type_kind, guard_rows, guard_sides, applied_kind, same_rows, field_flaw, fields_flaw, row_flaw, component_kind}
+use Rattle.kind_rules.specs.Rules.{and_then, unless, or_flaw, both, outside_of, unlike, expects, expects_row, type_kind, guard_rows, guard_sides, applied_kind, same_rows, field_flaw, fields_flaw, row_flaw, component_kind}
 
 -- a flaw, where there is one, has this cause
 abbrev pub Errs : {X : Type 0} → (Flw → Type 0) → Result X Flw → Type 0
@@ -123,11 +123,27 @@ forms_errs G c a b asks = by_forms (normal_forms comparison_units a b) refl
     by_forms (Ok mn) i = tt
     by_forms (Err e) i =
         let (large, why) = refused comparison_units a b e i in
-        flaw_at (Caused G c) e too_large large (record { scope = G; whole = c; left = a; right = b; is_part = itself; asks = asks; refused = why })
+        flaw_at (Caused G c) e too_large large (record { binders = []; scope = G; whole = c; left = a; right = b; is_part = itself; asks = asks; refused = why })
 
 touch_has : (G : Scope) (c a b : Cn) (mn : Cn × Cn) → Separates c a b → normal_forms comparison_units a b ≡ Ok mn → (o : Option (Cn × Cn)) → first_touch G.guards mn.0 mn.1 ≡ o → FlawHas (Caused G c) (touch_flaw o)
 touch_has G c a b mn asks i None e = tt
-touch_has G c a b mn asks i (Some pq) e = record { scope = G; whole = c; left = a; right = b; forms = mn; is_part = itself; asks = asks; normal = i; touch = touch_told G.guards mn.0 mn.1 pq.0 pq.1 e }
+touch_has G c a b mn asks i (Some pq) e =
+    record {
+      binders = [];
+      scope = G;
+      whole = c;
+      left = a;
+      right = b;
+      forms = mn;
+      left_piece = pq.0;
+      right_piece = pq.1;
+      is_part = itself;
+      asks = asks;
+      normal = i;
+      touch = touch_told G.guards mn.0 mn.1 pq.0 pq.1 e;
+      left_told = refl;
+      right_told = refl;
+    }
 
 apart_has : (G : Scope) (c a b : Cn) → Separates c a b → FlawHas (Caused G c) (not_apart G.guards a b)
 apart_has G c a b asks = by_forms (normal_forms comparison_units a b) refl (forms_errs G c a b (to_separate asks))
@@ -147,18 +163,66 @@ pairwise_has G c (n ∷ ns) asks =
     or_has (Caused G c) (not_apart_from G.guards n ns) _ (apart_from_has G c n ns (λ m h. asks n m (first h))) (pairwise_has G c ns (λ x m h. asks x m (later h)))
 
 -- among more parts
-pub among_more : (P Q : Scope → Cn → Type 0) → ((H : Scope) (d : Cn) → P H d → Q H d) → (e : Flw) → CausedBy P e → CausedBy Q e
-among_more P Q w (pieces_touch p q) h = record { scope = h.scope; whole = h.whole; left = h.left; right = h.right; forms = h.forms; is_part = w h.scope h.whole h.is_part; asks = h.asks; normal = h.normal; touch = h.touch }
-among_more P Q w too_large h = record { scope = h.scope; whole = h.whole; left = h.left; right = h.right; is_part = w h.scope h.whole h.is_part; asks = h.asks; refused = h.refused }
+pub among_more : (P Q : Parts) → ((ks : List Kd) (H : Scope) (d : Cn) → P ks H d → Q ks H d) → (e : Flw) → CausedBy P e → CausedBy Q e
+among_more P Q w (pieces_touch p q) h =
+    record {
+      binders = h.binders;
+      scope = h.scope;
+      whole = h.whole;
+      left = h.left;
+      right = h.right;
+      forms = h.forms;
+      left_piece = h.left_piece;
+      right_piece = h.right_piece;
+      is_part = w h.binders h.scope h.whole h.is_part;
+      asks = h.asks;
+      normal = h.normal;
+      touch = h.touch;
+      left_told = h.left_told;
+      right_told = h.right_told;
+    }
+among_more P Q w too_large h = record { binders = h.binders; scope = h.scope; whole = h.whole; left = h.left; right = h.right; is_part = w h.binders h.scope h.whole h.is_part; asks = h.asks; refused = h.refused }
 among_more P Q w (unbound_variable i) h = tt
 among_more P Q w (unbound_basic s) h = tt
 among_more P Q w (kinds_differ k l) h = tt
 
--- a part's
-of_part : {X : Type 0} (G H : Scope) (a c : Cn) (r : Result X Flw) → ((I : Scope) (d : Cn) → Stands H a I d → Stands G c I d) → Errs (Caused H a) r → Errs (Caused G c) r
-of_part G H a c r w h = weaker (Caused H a) (Caused G c) r (among_more (λ I d. Stands H a I d) (λ I d. Stands G c I d) w) h
+-- among the parts of a whole that stand under one binder more than in its body: what is told is closed by that binder
+among_closed : (P Q : Parts) (k : Kd) → ((ks : List Kd) (H : Scope) (d : Cn) → P ks H d → Q (k ∷ ks) H d) → (e : Flw) → CausedBy P e → CausedBy Q (closed_by k e)
+among_closed P Q k w (pieces_touch p q) h =
+    record {
+      binders = k ∷ h.binders;
+      scope = h.scope;
+      whole = h.whole;
+      left = h.left;
+      right = h.right;
+      forms = h.forms;
+      left_piece = h.left_piece;
+      right_piece = h.right_piece;
+      is_part = w h.binders h.scope h.whole h.is_part;
+      asks = h.asks;
+      normal = h.normal;
+      touch = h.touch;
+      left_told = ap (lambda k) h.left_told;
+      right_told = ap (lambda k) h.right_told;
+    }
+among_closed P Q k w too_large h = record { binders = k ∷ h.binders; scope = h.scope; whole = h.whole; left = h.left; right = h.right; is_part = w h.binders h.scope h.whole h.is_part; asks = h.asks; refused = h.refused }
+among_closed P Q k w (unbound_variable i) h = tt
+among_closed P Q k w (unbound_basic s) h = tt
+among_closed P Q k w (kinds_differ l m) h = tt
 
-two_parts : (G : Scope) (a b c : Cn) → ((I : Scope) (d : Cn) → Stands G a I d → Stands G c I d) → ((I : Scope) (d : Cn) → Stands G b I d → Stands G c I d) → Errs (Caused G a) (kinding G a) → Errs (Caused G b) (kinding G b) → Errs (Caused G c) (both (kinding G a) (kinding G b))
+-- a part's
+of_part : {X : Type 0} (G H : Scope) (a c : Cn) (r : Result X Flw) → ((ks : List Kd) (I : Scope) (d : Cn) → Stands H a ks I d → Stands G c ks I d) → Errs (Caused H a) r → Errs (Caused G c) r
+of_part G H a c r w h = weaker (Caused H a) (Caused G c) r (among_more (Stands H a) (Stands G c) w) h
+
+-- a binder's body's
+outside_errs : {X : Type 0} (C D : Flw → Type 0) (k : Kd) (r : Result X Flw) → ((e : Flw) → C e → D (closed_by k e)) → Errs C r → Errs D (outside_of k r)
+outside_errs C D k (Ok x) w h = tt
+outside_errs C D k (Err e) w h = w e h
+
+of_body : {X : Type 0} (G : Scope) (k : Kd) (b c : Cn) (r : Result X Flw) → ((ks : List Kd) (I : Scope) (d : Cn) → Stands (bind k G) b ks I d → Stands G c (k ∷ ks) I d) → Errs (Caused (bind k G) b) r → Errs (Caused G c) (outside_of k r)
+of_body G k b c r w h = outside_errs (Caused (bind k G) b) (Caused G c) k r (among_closed (Stands (bind k G) b) (Stands G c) k w) h
+
+two_parts : (G : Scope) (a b c : Cn) → ((ks : List Kd) (I : Scope) (d : Cn) → Stands G a ks I d → Stands G c ks I d) → ((ks : List Kd) (I : Scope) (d : Cn) → Stands G b ks I d → Stands G c ks I d) → Errs (Caused G a) (kinding G a) → Errs (Caused G b) (kinding G b) → Errs (Caused G c) (both (kinding G a) (kinding G b))
 two_parts G a b c v w h g = both_errs (Caused G c) (kinding G a) (kinding G b) (of_part G G a c (kinding G a) v h) (of_part G G b c (kinding G b) w g)
 
 sides_of : (a b : Cn) (r : Result (Kd × Kd) Flw) (mn : Cn × Cn) → guard_sides a b r ≡ Ok mn → normal_forms comparison_units a b ≡ Ok mn
@@ -172,60 +236,60 @@ mutual
   kinding_errs G (var i) = or_flaw_errs (Caused G (var i)) (unbound_variable i) (slice_get G.binders i) tt
   kinding_errs G (basic s) = or_flaw_errs (Caused G (basic s)) (unbound_basic s) (basic_kind G.basics s) tt
   kinding_errs G (arrow a b) =
-      then_errs (Caused G (arrow a b)) (both (kinding G a) (kinding G b)) _ (two_parts G a b (arrow a b) (λ _ _. left_of_arrow) (λ _ _. right_of_arrow) (kinding_errs G a) (kinding_errs G b))
+      then_errs (Caused G (arrow a b)) (both (kinding G a) (kinding G b)) _ (two_parts G a b (arrow a b) (λ _ _ _. left_of_arrow) (λ _ _ _. right_of_arrow) (kinding_errs G a) (kinding_errs G b))
       (λ k _. then_errs (Caused G (arrow a b)) (expects types k.0) _ (expects_errs (Caused G (arrow a b)) (plain G (arrow a b)) types k.0) (λ _ _. expects_errs (Caused G (arrow a b)) (plain G (arrow a b)) types k.1))
-  kinding_errs G (poly x k b) = body_errs (Caused G (poly x k b)) (plain G (poly x k b)) (kinding (bind k G) b) (of_part G (bind k G) b (poly x k b) (kinding (bind k G) b) (λ _ _. in_poly) (kinding_errs (bind k G) b))
+  kinding_errs G (poly x k b) = body_errs (Caused G (poly x k b)) (plain G (poly x k b)) (outside_of k (kinding (bind k G) b)) (of_body G k b (poly x k b) (kinding (bind k G) b) (λ _ _ _. in_poly) (kinding_errs (bind k G) b))
   kinding_errs G (guarded a b c) =
       let C : Flw → Type 0 = Caused G (guarded a b c) in
       then_errs C (guard_sides a b (both (kinding G a) (kinding G b))) _
       (then_errs C (guard_rows (both (kinding G a) (kinding G b))) _
-      (then_errs C (both (kinding G a) (kinding G b)) _ (two_parts G a b (guarded a b c) (λ _ _. left_of_guard) (λ _ _. right_of_guard) (kinding_errs G a) (kinding_errs G b))
+      (then_errs C (both (kinding G a) (kinding G b)) _ (two_parts G a b (guarded a b c) (λ _ _ _. left_of_guard) (λ _ _ _. right_of_guard) (kinding_errs G a) (kinding_errs G b))
       (λ k _. both_errs C (expects_row k.0) (expects_row k.1) (row_errs C (plain G (guarded a b c)) k.0) (row_errs C (plain G (guarded a b c)) k.1)))
       (λ _ _. forms_errs G (guarded a b c) a b to_assume))
-      (λ mn e. body_errs C (plain G (guarded a b c)) (kinding (assume mn.0 mn.1 G) c) (of_part G (assume mn.0 mn.1 G) c (guarded a b c) (kinding (assume mn.0 mn.1 G) c) (λ _ _. under_guard (sides_of a b (both (kinding G a) (kinding G b)) mn e)) (kinding_errs (assume mn.0 mn.1 G) c)))
+      (λ mn e. body_errs C (plain G (guarded a b c)) (kinding (assume mn.0 mn.1 G) c) (of_part G (assume mn.0 mn.1 G) c (guarded a b c) (kinding (assume mn.0 mn.1 G) c) (λ _ _ _. under_guard (sides_of a b (both (kinding G a) (kinding G b)) mn e)) (kinding_errs (assume mn.0 mn.1 G) c)))
   kinding_errs G (record_of a) =
-      then_errs (Caused G (record_of a)) (kinding G a) _ (of_part G G a (record_of a) (kinding G a) (λ _ _. in_record) (kinding_errs G a))
+      then_errs (Caused G (record_of a)) (kinding G a) _ (of_part G G a (record_of a) (kinding G a) (λ _ _ _. in_record) (kinding_errs G a))
       (λ k _. unless_errs (Caused G (record_of a)) (unlike (row_of types) k) types (unlike_has (Caused G (record_of a)) (plain G (record_of a)) (row_of types) k))
   kinding_errs G (app f a) =
-      then_errs (Caused G (app f a)) (both (kinding G f) (kinding G a)) _ (two_parts G f a (app f a) (λ _ _. in_function) (λ _ _. in_argument) (kinding_errs G f) (kinding_errs G a))
+      then_errs (Caused G (app f a)) (both (kinding G f) (kinding G a)) _ (two_parts G f a (app f a) (λ _ _ _. in_function) (λ _ _ _. in_argument) (kinding_errs G f) (kinding_errs G a))
       (λ k _. applied_errs (Caused G (app f a)) (plain G (app f a)) k.0 k.1)
-  kinding_errs G (lambda k b) = then_errs (Caused G (lambda k b)) (kinding (bind k G) b) _ (of_part G (bind k G) b (lambda k b) (kinding (bind k G) b) (λ _ _. in_lambda) (kinding_errs (bind k G) b)) (λ l _. tt)
+  kinding_errs G (lambda k b) = then_errs (Caused G (lambda k b)) (outside_of k (kinding (bind k G) b)) _ (of_body G k b (lambda k b) (kinding (bind k G) b) (λ _ _ _. in_lambda) (kinding_errs (bind k G) b)) (λ l _. tt)
   kinding_errs G unit_con = tt
   kinding_errs G (name s) = tt
   kinding_errs G (row k ps) =
       let C : Flw → Type 0 = Caused G (row k ps) in
       then_errs C (kinding_fields G ps) _
-      (weaker (CausedBy (λ H d. StandsInField G ps H d)) C (kinding_fields G ps) (among_more (λ H d. StandsInField G ps H d) (λ H d. Stands G (row k ps) H d) (λ _ _. in_row)) (fields_errs G ps))
+      (weaker (CausedBy (StandsInField G ps)) C (kinding_fields G ps) (among_more (StandsInField G ps) (Stands G (row k ps)) (λ _ _ _. in_row)) (fields_errs G ps))
       (λ fs _. unless_errs C (row_flaw G.guards k ps fs) (row_of k) (or_has C (fields_flaw k fs) _ (fields_has C (plain G (row k ps)) k fs) (pairwise_has G (row k ps) (names_of ps) (λ n m h. of_names h))))
   kinding_errs G (cat a b) =
       let C : Flw → Type 0 = Caused G (cat a b) in
       then_errs C (same_rows (both (kinding G a) (kinding G b))) _
-      (then_errs C (both (kinding G a) (kinding G b)) _ (two_parts G a b (cat a b) (λ _ _. left_of_cat) (λ _ _. right_of_cat) (kinding_errs G a) (kinding_errs G b))
+      (then_errs C (both (kinding G a) (kinding G b)) _ (two_parts G a b (cat a b) (λ _ _ _. left_of_cat) (λ _ _ _. right_of_cat) (kinding_errs G a) (kinding_errs G b))
       (λ k _. then_errs C (expects_row k.0) _ (row_errs C (plain G (cat a b)) k.0) (λ l _. expects_errs C (plain G (cat a b)) l k.1)))
       (λ k _. unless_errs C (not_apart G.guards a b) k (apart_has G (cat a b) a b sides))
   kinding_errs G (map_of k l) = tt
   kinding_errs G (tuple cs) =
       then_errs (Caused G (tuple cs)) (kinding_all G cs) _
-      (weaker (CausedBy (λ H d. StandsInComponent G cs H d)) (Caused G (tuple cs)) (kinding_all G cs) (among_more (λ H d. StandsInComponent G cs H d) (λ H d. Stands G (tuple cs) H d) (λ _ _. in_tuple)) (all_errs G cs))
+      (weaker (CausedBy (StandsInComponent G cs)) (Caused G (tuple cs)) (kinding_all G cs) (among_more (StandsInComponent G cs) (Stands G (tuple cs)) (λ _ _ _. in_tuple)) (all_errs G cs))
       (λ ks _. tt)
-  kinding_errs G (proj c n) = then_errs (Caused G (proj c n)) (kinding G c) _ (of_part G G c (proj c n) (kinding G c) (λ _ _. in_proj) (kinding_errs G c)) (λ k _. component_errs (Caused G (proj c n)) (plain G (proj c n)) n k)
+  kinding_errs G (proj c n) = then_errs (Caused G (proj c n)) (kinding G c) _ (of_part G G c (proj c n) (kinding G c) (λ _ _ _. in_proj) (kinding_errs G c)) (λ k _. component_errs (Caused G (proj c n)) (plain G (proj c n)) n k)
 
-  all_errs : (G : Scope) (cs : Cns) → Errs (CausedBy (λ H d. StandsInComponent G cs H d)) (kinding_all G cs)
+  all_errs : (G : Scope) (cs : Cns) → Errs (CausedBy (StandsInComponent G cs)) (kinding_all G cs)
   all_errs G no_cons = tt
   all_errs G (con c cs) =
-      let C : Flw → Type 0 = CausedBy (λ H d. StandsInComponent G (con c cs) H d) in
-      then_errs C (kinding G c) _ (weaker (Caused G c) C (kinding G c) (among_more (λ H d. Stands G c H d) (λ H d. StandsInComponent G (con c cs) H d) (λ _ _. in_first)) (kinding_errs G c))
-      (λ k _. then_errs C (kinding_all G cs) _ (weaker (CausedBy (λ H d. StandsInComponent G cs H d)) C (kinding_all G cs) (among_more (λ H d. StandsInComponent G cs H d) (λ H d. StandsInComponent G (con c cs) H d) (λ _ _. in_later)) (all_errs G cs)) (λ ks _. tt))
+      let C : Flw → Type 0 = CausedBy (StandsInComponent G (con c cs)) in
+      then_errs C (kinding G c) _ (weaker (Caused G c) C (kinding G c) (among_more (Stands G c) (StandsInComponent G (con c cs)) (λ _ _ _. in_first)) (kinding_errs G c))
+      (λ k _. then_errs C (kinding_all G cs) _ (weaker (CausedBy (StandsInComponent G cs)) C (kinding_all G cs) (among_more (StandsInComponent G cs) (StandsInComponent G (con c cs)) (λ _ _ _. in_later)) (all_errs G cs)) (λ ks _. tt))
 
-  fields_errs : (G : Scope) (ps : Prs) → Errs (CausedBy (λ H d. StandsInField G ps H d)) (kinding_fields G ps)
+  fields_errs : (G : Scope) (ps : Prs) → Errs (CausedBy (StandsInField G ps)) (kinding_fields G ps)
   fields_errs G no_pairs = tt
   fields_errs G (pair n v ps) =
-      let C : Flw → Type 0 = CausedBy (λ H d. StandsInField G (pair n v ps) H d) in
+      let C : Flw → Type 0 = CausedBy (StandsInField G (pair n v ps)) in
       then_errs C (both (kinding G n) (kinding G v)) _
       (both_errs C (kinding G n) (kinding G v)
-      (weaker (Caused G n) C (kinding G n) (among_more (λ H d. Stands G n H d) (λ H d. StandsInField G (pair n v ps) H d) (λ _ _. in_name)) (kinding_errs G n))
-      (weaker (Caused G v) C (kinding G v) (among_more (λ H d. Stands G v H d) (λ H d. StandsInField G (pair n v ps) H d) (λ _ _. in_value)) (kinding_errs G v)))
-      (λ k _. then_errs C (kinding_fields G ps) _ (weaker (CausedBy (λ H d. StandsInField G ps H d)) C (kinding_fields G ps) (among_more (λ H d. StandsInField G ps H d) (λ H d. StandsInField G (pair n v ps) H d) (λ _ _. in_later_field)) (fields_errs G ps)) (λ ks _. tt))
+      (weaker (Caused G n) C (kinding G n) (among_more (Stands G n) (StandsInField G (pair n v ps)) (λ _ _ _. in_name)) (kinding_errs G n))
+      (weaker (Caused G v) C (kinding G v) (among_more (Stands G v) (StandsInField G (pair n v ps)) (λ _ _ _. in_value)) (kinding_errs G v)))
+      (λ k _. then_errs C (kinding_fields G ps) _ (weaker (CausedBy (StandsInField G ps)) C (kinding_fields G ps) (among_more (StandsInField G ps) (StandsInField G (pair n v ps)) (λ _ _ _. in_later_field)) (fields_errs G ps)) (λ ks _. tt))
 
 -- what is told where a kind should be found
 pub and_cause : (G : Scope) (c : Cn) (P : Kd → Type 0) (r : Result Kd Flw) → Holds P r → Errs (Caused G c) r → MatchResult r P (λ e. IsOfComparison e × Caused G c e)

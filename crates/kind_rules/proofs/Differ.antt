@@ -11,10 +11,10 @@ use Rattle.con_terms.proofs.Lists.{kind_list_from}
 use Rattle.con_terms.proofs.SameKinds.{kd_eq_refl}
 use Rattle.disjoint_prover.specs.Separation.{first_touch}
 use Rattle.row_normal.specs.NormalForm.{nf}
-use Rattle.kind_rules.specs.Flaws.{Flw, unbound_variable, unbound_basic, kinds_differ, pieces_touch, too_large}
+use Rattle.kind_rules.specs.Flaws.{Flw, unbound_variable, unbound_basic, kinds_differ, pieces_touch, too_large, closed_by}
 use Rattle.kind_rules.specs.Compared.{comparison_units, with_second, with_first, normal_forms, touch_flaw, forms_flaw, not_apart, not_apart_from, not_pairwise_apart}
 use Rattle.kind_rules.specs.Faults.{Refuses, KeepsTwoKinds}
-use Rattle.kind_rules.specs.Rules.{and_then, unless, or_flaw, both, unlike, expects, expects_row, type_kind, guard_rows, guard_sides, applied_kind, same_rows, field_flaw, fields_flaw, row_flaw, component_kind}
+use Rattle.kind_rules.specs.Rules.{and_then, unless, or_flaw, both, outside_of, unlike, expects, expects_row, type_kind, guard_rows, guard_sides, applied_kind, same_rows, field_flaw, fields_flaw, row_flaw, component_kind}
 use Rattle.kind_rules.specs.Kinding.{kinding, kinding_all, kinding_fields, judged}
 use Rattle.kind_rules.specs.declared.fault.KindFault.{KindFault}
 use Rattle.kind_rules.specs.declared.fault.KindFault.TheVariants.{Unbound, KindMismatch, NotDisjoint, TooLarge, Memory}
@@ -130,6 +130,18 @@ fields_fair : (k : Kd) (fs : List (Kd × Kd)) → FairFlaw (fields_flaw k fs)
 fields_fair k [] = tt
 fields_fair k (f ∷ fs) = or_fair (field_flaw k f) _ (or_fair (unlike names f.0) _ (unlike_fair names f.0) (unlike_fair k f.1)) (fields_fair k fs)
 
+-- a binder closes no mismatch
+closed_differs : (k : Kd) (e : Flw) → DiffersIn e → DiffersIn (closed_by k e)
+closed_differs k (unbound_variable i) h = tt
+closed_differs k (unbound_basic s) h = tt
+closed_differs k (kinds_differ l m) h = h
+closed_differs k (pieces_touch p q) h = tt
+closed_differs k too_large h = tt
+
+outside_fair : {X : Type 0} (k : Kd) (r : Result X Flw) → Fair r → Fair (outside_of k r)
+outside_fair k (Ok x) h = tt
+outside_fair k (Err e) h = closed_differs k e h
+
 body_fair : (r : Result Kd Flw) → Fair r → Fair (type_kind r)
 body_fair r h = then_fair r _ h (expects_fair types)
 
@@ -140,7 +152,7 @@ mutual
   kinding_fair G (arrow a b) =
       then_fair (both (kinding G a) (kinding G b)) _ (both_fair (kinding G a) (kinding G b) (kinding_fair G a) (kinding_fair G b))
       (λ k. then_fair (expects types k.0) _ (expects_fair types k.0) (λ _. expects_fair types k.1))
-  kinding_fair G (poly x k b) = body_fair (kinding (bind k G) b) (kinding_fair (bind k G) b)
+  kinding_fair G (poly x k b) = body_fair (outside_of k (kinding (bind k G) b)) (outside_fair k (kinding (bind k G) b) (kinding_fair (bind k G) b))
   kinding_fair G (guarded a b c) =
       then_fair (guard_sides a b (both (kinding G a) (kinding G b))) _
       (then_fair (guard_rows (both (kinding G a) (kinding G b))) _
@@ -150,7 +162,7 @@ mutual
   kinding_fair G (record_of a) = then_fair (kinding G a) _ (kinding_fair G a) (λ k. unless_fair (unlike (row_of types) k) types (unlike_fair (row_of types) k))
   kinding_fair G (app f a) =
       then_fair (both (kinding G f) (kinding G a)) _ (both_fair (kinding G f) (kinding G a) (kinding_fair G f) (kinding_fair G a)) (λ k. applied_fair k.0 k.1)
-  kinding_fair G (lambda k b) = then_fair (kinding (bind k G) b) _ (kinding_fair (bind k G) b) (λ l. tt)
+  kinding_fair G (lambda k b) = then_fair (outside_of k (kinding (bind k G) b)) _ (outside_fair k (kinding (bind k G) b) (kinding_fair (bind k G) b)) (λ l. tt)
   kinding_fair G unit_con = tt
   kinding_fair G (name s) = tt
   kinding_fair G (row k ps) =

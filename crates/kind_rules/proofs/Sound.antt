@@ -13,7 +13,7 @@ use Rattle.disjoint_prover.proofs.Sound.{none_or, touch_sound}
 use Rattle.row_normal.specs.NormalForm.{nf}
 use Rattle.kind_rules.specs.Flaws.{Flw, kinds_differ, too_large}
 use Rattle.kind_rules.specs.Compared.{comparison_units, with_second, with_first, normal_forms, touch_flaw, forms_flaw, not_apart, not_apart_from, not_pairwise_apart}
-use Rattle.kind_rules.specs.Rules.{and_then, unless, or_flaw, both, unlike, expects, expects_row, type_kind, guard_rows, guard_sides, applied_kind, same_rows, field_flaw, fields_flaw, row_flaw, component_kind}
+use Rattle.kind_rules.specs.Rules.{and_then, unless, or_flaw, both, outside_of, unlike, expects, expects_row, type_kind, guard_rows, guard_sides, applied_kind, same_rows, field_flaw, fields_flaw, row_flaw, component_kind}
 use Rattle.kind_rules.specs.Kinding.{kinding, kinding_all, kinding_fields, judged}
 use Rattle.row_normal.proofs.NormalEqual.{nf_equal}
 use Rattle.kind_rules.proofs.Guarded.{kinded_under}
@@ -27,6 +27,10 @@ pub record Follows {X Y : Type 0} (r : Result X Flw) (f : X → Result Y Flw) (y
 pub follows : {X Y : Type 0} (r : Result X Flw) (f : X → Result Y Flw) (y : Y) → and_then r f ≡ Ok y → Follows r f y
 follows (Ok x) f y h = record { x = x; first = refl; then' = h }
 follows (Err e) f y h = cc
+
+outside_ok : {X : Type 0} (k : Kd) (r : Result X Flw) (x : X) → outside_of k r ≡ Ok x → r ≡ Ok x
+outside_ok k (Ok y) x h = h
+outside_ok k (Err e) x h = cc
 
 unless_ok : {X : Type 0} (o : Option Flw) (x y : X) → unless o x ≡ Ok y → (o ≡ None) × (x ≡ y)
 unless_ok None x y h = (refl, cc)
@@ -147,7 +151,7 @@ mutual
       let (j, l) = expected types f.x.1 k g.then' in
       kinded_at (of_arrow (kinded_at (kinding_sound G a f.x.0 p) (sym i)) (kinded_at (kinding_sound G b f.x.1 q) (sym j))) (j ∙ l)
   kinding_sound G (poly x l b) k h =
-      let (p, q) = body_sound (kinding (bind l G) b) k (λ m. kinding_sound (bind l G) b m) h in
+      let (p, q) = body_sound (outside_of l (kinding (bind l G) b)) k (λ m e. kinding_sound (bind l G) b m (outside_ok l (kinding (bind l G) b) m e)) h in
       kinded_at (of_poly p) q
   kinding_sound G (guarded a b c) k h =
       let f = follows (guard_sides a b (both (kinding G a) (kinding G b))) _ k h in
@@ -169,8 +173,8 @@ mutual
       let (p, q) = both_found (kinding G x) (kinding G a) f.x f.first in
       of_app (kinded_at (kinding_sound G x f.x.0 p) (applied_found f.x.0 f.x.1 k f.then')) (kinding_sound G a f.x.1 q)
   kinding_sound G (lambda l b) k h =
-      let f = follows (kinding (bind l G) b) _ k h in
-      kinded_at (of_lambda (kinding_sound (bind l G) b f.x f.first)) (let e : to l f.x ≡ k = cc in e)
+      let f = follows (outside_of l (kinding (bind l G) b)) _ k h in
+      kinded_at (of_lambda (kinding_sound (bind l G) b f.x (outside_ok l (kinding (bind l G) b) f.x f.first))) (let e : to l f.x ≡ k = cc in e)
   kinding_sound G unit_con k h = kinded_at of_unit (let e : units ≡ k = cc in e)
   kinding_sound G (name s) k h = kinded_at of_name (let e : names ≡ k = cc in e)
   kinding_sound G (row l ps) k h =

@@ -12,9 +12,9 @@ use Rattle.con_terms.specs.declared.place.Place.{Place}
 use Rattle.disjoint_prover.specs.Separation.{first_touch}
 use Rattle.row_normal.specs.NormalForm.{nf}
 use Rattle.kind_rules.specs.Faults.{Refuses, IsOfComparison, TellsComparison}
-use Rattle.kind_rules.specs.Flaws.{Flw, unbound_variable, unbound_basic, kinds_differ, pieces_touch, too_large}
+use Rattle.kind_rules.specs.Flaws.{Flw, unbound_variable, unbound_basic, kinds_differ, pieces_touch, too_large, closed_by}
 use Rattle.kind_rules.specs.Compared.{comparison_units, with_second, with_first, normal_forms, touch_flaw, forms_flaw, not_apart, not_apart_from, not_pairwise_apart}
-use Rattle.kind_rules.specs.Rules.{and_then, unless, or_flaw, both, unlike, expects, expects_row, type_kind, arrow_kind, guard_rows, guard_sides, record_kind, applied_kind, app_kind, lambda_kind, same_rows, cat_kind, fields_flaw, row_flaw, component_kind}
+use Rattle.kind_rules.specs.Rules.{and_then, unless, or_flaw, both, outside_of, unlike, expects, expects_row, type_kind, arrow_kind, guard_rows, guard_sides, record_kind, applied_kind, app_kind, lambda_kind, same_rows, cat_kind, fields_flaw, row_flaw, component_kind}
 use Rattle.kind_rules.specs.Kinding.{kinding, kinding_all, kinding_fields, judged}
 use Rattle.kind_rules.specs.declared.fault.KindFault.{KindFault}
 use Rattle.kind_rules.specs.declared.fault.KindFault.TheVariants.{Unbound, KindMismatch, NotDisjoint, TooLarge, Memory}
@@ -54,6 +54,18 @@ none_compares (Some e) h = cc
 
 there_holds : {X : Type 0} (P : X → Type 0) (e : Flw) (o : Option X) (x : X) → o ≡ Some x → P x → Holds P (or_flaw e o)
 there_holds {X} P e o x is p = let Q : Option X → Type 0 = λ z. Holds P (or_flaw e z) in subst Q (sym is) p
+
+-- under a binder
+closed_compares : (k : Kd) (e : Flw) → IsOfComparison e → IsOfComparison (closed_by k e)
+closed_compares k (unbound_variable i) h = h
+closed_compares k (unbound_basic s) h = h
+closed_compares k (kinds_differ l m) h = h
+closed_compares k (pieces_touch p q) h = tt
+closed_compares k too_large h = tt
+
+outside_holds : {X : Type 0} (P : X → Type 0) (k : Kd) (r : Result X Flw) → Holds P r → Holds P (outside_of k r)
+outside_holds P k (Ok x) h = h
+outside_holds P k (Err e) h = closed_compares k e h
 
 -- kinds that are one
 like_none : (k l : Kd) → l ≡ k → unlike k l ≡ None
@@ -174,7 +186,7 @@ mutual
   told_of_kinded G (var i) k (of_var e) = there_holds (Is k) _ (slice_get G.binders i) k e refl
   told_of_kinded G (basic s) k (of_basic e) = there_holds (Is k) _ (basic_kind G.basics s) k e refl
   told_of_kinded G (arrow a b) _ (of_arrow h g) = arrow_holds (kinding G a) (kinding G b) (told_of_kinded G a types h) (told_of_kinded G b types g)
-  told_of_kinded G (poly x l b) _ (of_poly h) = body_holds (kinding (bind l G) b) (told_of_kinded (bind l G) b types h)
+  told_of_kinded G (poly x l b) _ (of_poly h) = body_holds (outside_of l (kinding (bind l G) b)) (outside_holds (Is types) l (kinding (bind l G) b) (told_of_kinded (bind l G) b types h))
   told_of_kinded G (guarded a b c) _ (of_guarded {k = k} {l = l} h g x) =
       then_holds (λ mn. normal_forms comparison_units a b ≡ Ok mn) (Is types) (guard_sides a b (both (kinding G a) (kinding G b))) _
       (guard_holds a b k l (kinding G a) (kinding G b) (told_of_kinded G a (row_of k) h) (told_of_kinded G b (row_of l) g))
@@ -183,7 +195,7 @@ mutual
       body_holds (kinding (assume mn.0 mn.1 G) c) (told_of_kinded (assume mn.0 mn.1 G) c types (kinded_under (back p) (back q) x)))
   told_of_kinded G (record_of a) _ (of_record h) = record_holds (kinding G a) (told_of_kinded G a (row_of types) h)
   told_of_kinded G (app f a) l (of_app {k = k} h g) = app_holds k l (kinding G f) (kinding G a) (told_of_kinded G f (to k l) h) (told_of_kinded G a k g)
-  told_of_kinded G (lambda k b) _ (of_lambda {l = l} h) = lambda_holds k l (kinding (bind k G) b) (told_of_kinded (bind k G) b l h)
+  told_of_kinded G (lambda k b) _ (of_lambda {l = l} h) = lambda_holds k l (outside_of k (kinding (bind k G) b)) (outside_holds (Is l) k (kinding (bind k G) b) (told_of_kinded (bind k G) b l h))
   told_of_kinded G unit_con _ of_unit = refl
   told_of_kinded G (name s) _ of_name = refl
   told_of_kinded G (row k ps) _ (of_row h m) =

@@ -6,7 +6,7 @@ use Rattle.con_terms.specs.Size.{depth}
 use Rattle.con_terms.specs.Kinded.{Scope, basic_kind, bind, assume}
 use Rattle.row_normal.specs.NormalForm.{limit}
 use Rattle.kind_rules.specs.Flaws.{Flw, unbound_variable, unbound_basic, too_large}
-use Rattle.kind_rules.specs.Rules.{and_then, or_flaw, both, expects, type_kind, arrow_kind, guard_sides, record_kind, app_kind, lambda_kind, cat_kind, found_first, row_kind, map_kind, tuple_kind, proj_kind}
+use Rattle.kind_rules.specs.Rules.{and_then, or_flaw, both, outside_of, expects, type_kind, arrow_kind, guard_sides, record_kind, app_kind, lambda_kind, cat_kind, found_first, row_kind, map_kind, tuple_kind, proj_kind}
 
 abbrev mutual
   -- what is found for a constructor, whatever its depth
@@ -14,14 +14,14 @@ abbrev mutual
   kinding G (var i) = or_flaw (unbound_variable i) (slice_get G.binders i)
   kinding G (basic s) = or_flaw (unbound_basic s) (basic_kind G.basics s)
   kinding G (arrow a b) = arrow_kind (both (kinding G a) (kinding G b))
-  kinding G (poly x k b) = type_kind (kinding (bind k G) b)
+  kinding G (poly x k b) = type_kind (outside_of k (kinding (bind k G) b))
   kinding G (guarded a b c) =
       and_then
       (guard_sides a b (both (kinding G a) (kinding G b)))
       (λ (mn : Cn × Cn). type_kind (kinding (assume mn.0 mn.1 G) c))
   kinding G (record_of a) = record_kind (kinding G a)
   kinding G (app f a) = app_kind (both (kinding G f) (kinding G a))
-  kinding G (lambda k b) = lambda_kind k (kinding (bind k G) b)
+  kinding G (lambda k b) = lambda_kind k (outside_of k (kinding (bind k G) b))
   kinding G unit_con = Ok units
   kinding G (name s) = Ok names
   kinding G (row k ps) = row_kind G.guards k ps (kinding_fields G ps)

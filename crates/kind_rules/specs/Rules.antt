@@ -9,7 +9,7 @@ use Rattle.con_terms.specs.Trees.{Kd, types, names, row_of, to, tuple_of, kind_l
 use Rattle.con_terms.specs.Same.{kd_eq}
 use Rattle.con_terms.specs.Apart.{Guards}
 use Rattle.con_terms.specs.View.{kinds_from}
-use Rattle.kind_rules.specs.Flaws.{Flw, kinds_differ}
+use Rattle.kind_rules.specs.Flaws.{Flw, kinds_differ, closed_by}
 use Rattle.kind_rules.specs.Compared.{comparison_units, normal_forms, not_apart, not_pairwise_apart}
 
 -- what follows from what is found, or the flaw
@@ -34,6 +34,11 @@ both a b = and_then a (λ k. and_then b (λ l. Ok (k, l)))
 -- what is found for one more, before the others
 abbrev pub found_first : {X : Type 0} → Result X Flw → Result (List X) Flw → Result (List X) Flw
 found_first x xs = and_then x (λ y. and_then xs (λ ys. Ok (y ∷ ys)))
+
+-- what is found under a binder of this kind, whose flaw is told outside of it
+abbrev pub outside_of : {X : Type 0} → Kd → Result X Flw → Result X Flw
+outside_of k (Ok x) = Ok x
+outside_of k (Err flaw) = Err (closed_by k flaw)
 
 -- the flaw that a kind isn't the one that is wanted
 abbrev pub unlike : Kd → Kd → Option Flw

@@ -30,7 +30,9 @@ pub enum KindFault {
         wanted: Kind,
         found: Kind,
     },
-    /// Two rows are not known to be apart: the first two pieces of their normal forms that nothing separates.
+    /// Two rows are not known to be apart: the first two pieces of their normal forms that nothing separates, each
+    /// closed by the binders of the constructor under which they touch, as `fn x :: k => piece`, the outermost binder
+    /// outside. So both are constructors of the scope in which the whole stands.
     #[error("two pieces of rows are not known to be apart")]
     NotDisjoint {
         place: Place,

@@ -1,12 +1,13 @@
 //! What can be wrong with a constructor, wherever it stands, and what is found where nothing is.
 
 ghost use Rattle.std.specs.Prelude.{◌≡◌, IfOk};
-ghost use Rattle.con_terms.specs.View.{kind_tree};
+ghost use Rattle.con_terms.specs.Trees.{lambda};
+ghost use Rattle.con_terms.specs.View.{con_tree, kind_tree};
 ghost use Rattle.kind_rules.specs.Rules.{both as found_both, expects as expected, unless as found_unless, unlike};
-ghost use Rattle.kind_rules.specs.Flaws.{kinds_differ};
+ghost use Rattle.kind_rules.specs.Flaws.{closed_by as flaw_closed_by, kinds_differ};
 ghost use Rattle.kind_rules.specs.View.{flaw_tree, found, maybe_flaw, two_trees};
 
-use con_terms::{Kind, Sym, copy_kind, same_kind};
+use con_terms::{Con, Kind, Sym, copy_kind, same_kind};
 use disjoint_prover::fault::Pieces;
 use std::alloc::{AllocError, Global};
 
@@ -19,7 +20,8 @@ pub enum Flaw {
     Basic(Sym),
     /// Two kinds differ.
     Differ(Box<Differing>),
-    /// Two pieces of rows are not known to be apart.
+    /// Two pieces of rows are not known to be apart. Each is closed by the binders of the constructor under which they
+    /// touch, as `fn x :: k => piece`, the outermost binder outside. A piece of rows is never itself a function.
     Touch(Box<Pieces>),
     /// A comparison takes too many units, or a constructor is too deep.
     TooLarge,
@@ -87,4 +89,37 @@ pub fn expects(alloc: Global, wanted: &Kind, kind: Kind) -> Result<Result<Kind, 
 {
     let flaw = compared(alloc, wanted, &kind)?;
     Ok(unless(flaw, kind))
+}
+
+/// The function of what a binder of this kind binds, whose body this is.
+fn function_of(alloc: Global, k: &Kind, body: Con) -> Result<Con, AllocError>
+    ensures { IfOk result (λ new. con_tree new ≡ lambda (kind_tree k.now) (con_tree body)) }
+{
+    let kind = Box::new(alloc, copy_kind(alloc, k)?)?;
+    let body = Box::new(alloc, body)?;
+    Ok(Con::Lambda(kind, body))
+}
+
+/// Two pieces that touch under a binder of this kind, closed by it.
+fn closed_pieces(alloc: Global, k: &Kind, pieces: Pieces) -> Result<Pieces, AllocError>
+    ensures left { IfOk result (λ new. con_tree new.left ≡ lambda (kind_tree k.now) (con_tree pieces.left)) }
+    ensures right { IfOk result (λ new. con_tree new.right ≡ lambda (kind_tree k.now) (con_tree pieces.right)) }
+{
+    let Pieces { left, right } = pieces;
+    let left = function_of(alloc, k, left)?;
+    let right = function_of(alloc, k, right)?;
+    Ok(Pieces { left, right })
+}
+
+/// A flaw found under a binder of this kind, as it is told outside of it.
+pub fn closed_by(alloc: Global, k: &Kind, flaw: Flaw) -> Result<Flaw, AllocError>
+    ensures { IfOk result (λ new. flaw_tree new ≡ flaw_closed_by (kind_tree k.now) (flaw_tree flaw)) }
+{
+    match flaw {
+        Flaw::Touch(pieces) => {
+            let closed = closed_pieces(alloc, k, Box::into_inner(pieces))?;
+            Ok(Flaw::Touch(Box::new(alloc, closed)?))
+        }
+        other => Ok(other),
+    }
 }

@@ -7,7 +7,7 @@ ghost use Rattle.con_terms.specs.View.{con_tree, cons_tree, kind_tree, pairs_tre
 ghost use Rattle.kind_rules.specs.Causes.{HasCause};
 ghost use Rattle.kind_rules.specs.Faults.{Gives, KeepsTwoKinds, TellsComparison};
 ghost use Rattle.kind_rules.specs.Kinding.{judged, judged_at, kinding, kinding_all, kinding_fields};
-ghost use Rattle.kind_rules.specs.Rules.{both as found_both, proj_kind, record_kind, tuple_kind, type_kind};
+ghost use Rattle.kind_rules.specs.Rules.{both as found_both, outside_of as found_outside_of, proj_kind, record_kind, tuple_kind, type_kind};
 ghost use Rattle.kind_rules.specs.View.{found, kind_trees, pair_trees, scope_view, sides_tree, two_trees};
 
 use crate::compare::Sides;
@@ -15,7 +15,7 @@ use crate::fault::{KindFault, fault_at};
 use crate::flaw::{Flaw, Two, both, expects};
 use crate::rules::{
     of_app, of_arrow, of_body, of_cat, of_guard, of_lambda, of_map, of_proj, of_record, of_row,
-    of_tuple,
+    of_tuple, outside_of,
 };
 use crate::scope::{Scope, kind_of_basic, kind_of_variable};
 use con_terms::{Con, Cons, Kind, Pairs, Place, fits};
@@ -25,8 +25,9 @@ use std::alloc::{AllocError, Global};
 /// The kind of a constructor that stands at a place, or why it has none.
 ///
 /// All that is told stands at this place. A flaw of a part comes before one of the whole, and that of an earlier part
-/// before that of a later one. A constructor that is deeper than 2,000 is TooLarge before all else; so is one of
-/// which a comparison takes 100,000 units or more, both sides together.
+/// before that of a later one. Two pieces that touch under binders of the constructor are told closed by these. A
+/// constructor that is deeper than 2,000 is TooLarge before all else; so is one of which a comparison takes 100,000
+/// units or more, both sides together.
 pub fn kind_of(alloc: Global, s: &Scope, c: &Con, at: Place) -> Result<Kind, KindFault>
     ensures kinded { IfOk result (λ k. Kinded (scope_view s.now) (con_tree c.now) (kind_tree k)) }
     ensures exact { Gives at result (judged (scope_view s.now) (con_tree c.now)) }
@@ -106,14 +107,16 @@ fn find_both(alloc: Global, s: &Scope, a: &Con, b: &Con) -> Result<Result<Two, F
     Ok(both(first, second))
 }
 
-/// Finds the kind of a constructor under one more binder, of this kind.
+/// Finds the kind of a constructor under one more binder, of this kind. A flaw of it is told outside of the binder.
 #[cycle(find)]
 fn find_under(alloc: Global, s: &Scope, k: &Kind, b: &Con) -> Result<Result<Kind, Flaw>, AllocError>
     ensures { IfOk result
-        (λ r. found kind_tree r ≡ kinding (bound (kind_tree k.now) (scope_view s.now)) (con_tree b.now)) }
+        (λ r. found kind_tree r
+        ≡ found_outside_of (kind_tree k.now) (kinding (bound (kind_tree k.now) (scope_view s.now)) (con_tree b.now))) }
 {
     let inner = s.bind(k)?;
-    find(alloc, &inner, b)
+    let body = find(alloc, &inner, b)?;
+    outside_of(alloc, k, body)
 }
 
 /// Finds the kind of a type of functions, `a -> b`.
@@ -130,7 +133,9 @@ fn find_arrow(alloc: Global, s: &Scope, a: &Con, b: &Con) -> Result<Result<Kind,
 #[cycle(find)]
 fn find_poly(alloc: Global, s: &Scope, k: &Kind, b: &Con) -> Result<Result<Kind, Flaw>, AllocError>
     ensures { IfOk result
-        (λ r. found kind_tree r ≡ type_kind (kinding (bound (kind_tree k.now) (scope_view s.now)) (con_tree b.now))) }
+        (λ r. found kind_tree r
+        ≡ type_kind (found_outside_of (kind_tree k.now)
+        (kinding (bound (kind_tree k.now) (scope_view s.now)) (con_tree b.now)))) }
 {
     let body = find_under(alloc, s, k, b)?;
     of_body(alloc, body)

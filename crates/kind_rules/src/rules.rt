@@ -3,11 +3,11 @@
 ghost use Rattle.std.specs.Prelude.{◌≡◌, ◌++◌, ◌∷◌, [], map, IfOk};
 ghost use Rattle.con_terms.specs.Trees.{kind_list, row_of, to, tuple_of, types};
 ghost use Rattle.con_terms.specs.View.{con_tree, kind_tree, kinds_from, kinds_tree, pairs_tree};
-ghost use Rattle.kind_rules.specs.Rules.{app_kind, applied_kind, arrow_kind, cat_kind, component_kind, expects_row as row_expected, field_flaw as flaw_of_field, fields_flaw as flaw_of_fields, guard_rows, guard_sides, lambda_kind, map_kind, proj_kind, record_kind, row_flaw as flaw_of_row, row_kind, same_rows, tuple_kind, type_kind, unless as found_unless, unlike};
+ghost use Rattle.kind_rules.specs.Rules.{app_kind, applied_kind, arrow_kind, cat_kind, component_kind, expects_row as row_expected, field_flaw as flaw_of_field, fields_flaw as flaw_of_fields, guard_rows, guard_sides, lambda_kind, map_kind, outside_of as found_outside_of, proj_kind, record_kind, row_flaw as flaw_of_row, row_kind, same_rows, tuple_kind, type_kind, unless as found_unless, unlike};
 ghost use Rattle.kind_rules.specs.View.{found, kind_trees, maybe_flaw, pair_trees, scope_view, sides_tree, two_trees};
 
 use crate::compare::{Sides, flaw_among, flaw_between, normal_sides};
-use crate::flaw::{Flaw, Two, both, compared, expects, mismatch, unless};
+use crate::flaw::{Flaw, Two, both, closed_by, compared, expects, mismatch, unless};
 use crate::scope::Scope;
 use con_terms::{Con, Kind, Kinds, Pairs, copy_kind};
 use std::alloc::{AllocError, Global};
@@ -38,6 +38,20 @@ fn expects_row(alloc: Global, kind: Kind) -> Result<Result<Kind, Flaw>, AllocErr
             let wanted = rows_of(alloc, Kind::Types)?;
             Ok(Err(mismatch(alloc, wanted, other)?))
         }
+    }
+}
+
+/// What is found under a binder of this kind, whose flaw is told outside of it.
+pub fn outside_of(
+    alloc: Global,
+    k: &Kind,
+    body: Result<Kind, Flaw>,
+) -> Result<Result<Kind, Flaw>, AllocError>
+    ensures { IfOk result (λ r. found kind_tree r ≡ found_outside_of (kind_tree k.now) (found kind_tree body)) }
+{
+    match body {
+        Ok(kind) => Ok(Ok(kind)),
+        Err(flaw) => Ok(Err(closed_by(alloc, k, flaw)?)),
     }
 }
 

@@ -82,7 +82,7 @@ pub enum Fault {
     Unbound(Place, Name),
     KindMismatch(Place, Box<Differing>),
     Mismatch(Place, Symbols, Box<Types>),
-    /// Two pieces of rows that aren't separated.
+    /// Two pieces of rows that aren't separated, closed by the binders of a constructor under which they touch.
     NotDisjoint(Place, Symbols, Box<Pieces>),
     /// A shape that no pattern takes.
     Inexhaustive(Place, Symbols, Box<Shape>),
