@@ -51,7 +51,7 @@ fn pat_field<'a>(tasks: &mut Tasks<'a>, field: &'a PatField, last: bool) -> Resu
     tasks.first(&[field_name(&field.name), word("="), pat(&field.pat, true)])
 }
 
-/// `{A = p, ...}`
+/// `{A = p, ...}`, and `{, ...}` where no field is named.
 fn pat_fields<'a>(
     tasks: &mut Tasks<'a>,
     fields: &'a PatFields,
@@ -60,6 +60,9 @@ fn pat_fields<'a>(
     tasks.before(word("}"))?;
     if more {
         tasks.before(word("..."))?;
+        if fields.items.is_empty() {
+            tasks.before(word(","))?;
+        }
     }
     let mut last = !more;
     for field in fields.items.iter().rev() {

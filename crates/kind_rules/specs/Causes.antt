@@ -96,9 +96,9 @@ IsRefused units a b = (nf units a ≡ None) ⊎ ((m : Cn) × (left : ℕ) × (nf
 abbrev pub Parts : Type 1
 Parts = List Kd → Scope → Cn → Type 0
 
--- One of these parts has two sides that have to be apart, and `left_piece` and `right_piece` are the first two pieces of
--- their normal forms that nothing separates where the part stands. What is told, p and q, is these two, closed by the
--- binders under which the part stands.
+-- One of these parts has two sides that have to be apart, and `left_piece` and `right_piece` are the first two pieces
+-- of their normal forms that nothing separates where the part stands. What is told, p and q, is these two, closed by
+-- the binders under which the part stands.
 pub record TouchAmong (Part : Parts) (p q : Cn) : Type 0 where
   pub binders : List Kd
   pub scope : Scope

@@ -14,7 +14,8 @@ pub mod Kinding
 pub mod View
 -- What the refusals of `kind_of` tell.
 pub mod Faults
--- What a refusal for touching pieces or size rests on: the part that asks for the comparison, and the binders around it.
+-- What a refusal for touching pieces or size rests on: the part that asks for the comparison, and the binders around
+-- it.
 pub mod Causes
 -- Laws of kinds.
 pub mod Laws
