@@ -7,8 +7,8 @@ use Rattle.core_terms.specs.declared.program.Program.{Program}
 use Rattle.source_names.specs.Scopes.{Words, DeclaredValue, DeclaredType, DeclaredBuilder, Declared, Tables, Scope, capital}
 use Rattle.source_names.specs.declared.builders.BasisPlace.{BasisPlace}
 use Rattle.source_names.specs.declared.marked.KnownValue.{KnownValue}
-use Rattle.source_names.specs.declared.known.KnownType.{KnownType}
-use Rattle.source_names.specs.declared.known.KnownBuilder.{KnownBuilder}
+use Rattle.source_names.specs.declared.marked.KnownType.{KnownType}
+use Rattle.source_names.specs.declared.marked.KnownBuilder.{KnownBuilder}
 use Rattle.source_names.specs.declared.known.Known.{Known}
 use Rattle.source_names.specs.declared.here.Names.{Names}
 use Rattle.source_names.specs.declared.here.Names.TheOpen.{Names-F}

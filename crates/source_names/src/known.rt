@@ -6,29 +6,11 @@ ghost use Rattle.source_names.specs.Scopes as scopes;
 ghost use Rattle.source_names.specs.Standing as standing;
 ghost use Rattle.source_names.specs.View.{builder_found, declared_view};
 
-use crate::marked::{KnownValue, is_value, mark_of};
-use crate::texts::same_text;
+use crate::marked::{KnownBuilder, KnownType, KnownValue, is_builder, is_type, is_value, mark_of};
 use con_terms::{Con, Sym, copy_con};
 use plain_tree::Path;
 use std::alloc::{AllocError, Global};
 use table_rows::Text;
-
-/// A name of the type level that a module declares, and what it means.
-#[derive(Drop)]
-pub struct KnownType {
-    pub home: usize,
-    pub name: Text,
-    pub means: Con,
-}
-
-/// A constructor of a datatype that a module declares: the datatype's symbol, and its place in it.
-#[derive(Drop)]
-pub struct KnownBuilder {
-    pub home: usize,
-    pub name: Text,
-    pub datatype: Sym,
-    pub index: u32,
-}
 
 /// What is declared so far, the latest last. Contracts see it as `declared_view`.
 #[derive(Drop)]
@@ -121,8 +103,14 @@ impl Known {
     {
         let home = self.last_home();
         let name = name.copy(alloc)?;
+        let mark = mark_of(&name);
         let means = copy_con(alloc, means)?;
-        self.types.push(KnownType { home, name, means })?;
+        self.types.push(KnownType {
+            home,
+            mark,
+            name,
+            means,
+        })?;
         Ok(())
     }
 
@@ -139,8 +127,10 @@ impl Known {
     {
         let home = self.last_home();
         let name = name.copy(alloc)?;
+        let mark = mark_of(&name);
         self.builders.push(KnownBuilder {
             home,
+            mark,
             name,
             datatype,
             index,
@@ -209,11 +199,12 @@ impl Known {
         ensures { option_map (λ t. con_tree t.now.means) result
             ≡ standing.type_in name.now (declared_view self.now).types home }
     {
+        let mark = mark_of(name);
         let mut left = self.types.len();
         while left > 0 {
             left -= 1;
             let known = &self.types[left];
-            if known.home == home && same_text(&known.name, name) {
+            if is_type(known, home, mark, name) {
                 return Some(known);
             }
         }
@@ -235,11 +226,12 @@ impl Known {
         ensures { option_map (λ b. builder_found b.now) result
             ≡ standing.builder_in name.now (declared_view self.now).builders home }
     {
+        let mark = mark_of(name);
         let mut left = self.builders.len();
         while left > 0 {
             left -= 1;
             let known = &self.builders[left];
-            if known.home == home && same_text(&known.name, name) {
+            if is_builder(known, home, mark, name) {
                 return Some(known);
             }
         }
