@@ -4,3 +4,5 @@ pub mod Scopes
 pub mod OverPieces
 -- The only field of a literal (for `value_of_only`).
 pub mod OnlyField
+-- Types that are their own normal forms (for `is_own_form`, `is_one_form`, `into_normal`, `is_alike`, `wants`).
+pub mod OwnForms

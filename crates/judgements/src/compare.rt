@@ -16,6 +16,7 @@ ghost use Rattle.type_faults.specs.View.{maybe_fault};
 use crate::called::names_called;
 use crate::globals::Globals;
 use crate::scope::Here;
+use crate::settled::{is_one_form, is_own_form};
 use con_terms::{Con, Kind, Place, copy_con, copy_kind, has_room, subst};
 use kind_rules::{comparison_fuel, flaw_between};
 use row_normal::normal::normal;
@@ -79,6 +80,17 @@ pub fn normal_of(alloc: Global, c: &Con) -> Result<Option<Con>, AllocError>
     }
 }
 
+/// The normal form of a type, which is the type where one walk tells so; none where it is too large.
+#[tactic(auto, using(crate::proofs::OwnForms::own_form))]
+pub fn into_normal(alloc: Global, c: Con) -> Result<Option<Con>, AllocError>
+    ensures { IfOk result (λ o. maybe_con o ≡ normal_in (con_tree c)) }
+{
+    if is_own_form(&c) {
+        return Ok(Some(c));
+    }
+    normal_of(alloc, &c)
+}
+
 /// The normal forms of two types, the left one's first, within the units of one comparison.
 pub fn both_forms(alloc: Global, a: &Con, b: &Con) -> Result<Option<Forms>, AllocError>
     ensures exact { IfOk result (λ o. forms_tree o ≡ normal_forms comparison_units (con_tree a.now) (con_tree b.now)) }
@@ -121,7 +133,8 @@ fn differing(
     }
 }
 
-/// What keeps a found type from being the wanted one.
+/// What keeps a found type from being the wanted one. Nothing does where one walk tells that they are one.
+#[tactic(auto, using(crate::proofs::OwnForms::wanted_own))]
 pub fn wants(
     alloc: Global,
     g: &Globals,
@@ -133,14 +146,21 @@ pub fn wants(
     ensures { IfOk result
         (λ o. maybe_fault o ≡ wanted_in (sc_view g.now s.now) p (con_tree wanted.now) (con_tree found.now)) }
 {
+    if is_one_form(wanted, found) {
+        return Ok(None);
+    }
     let f = both_forms(alloc, wanted, found)?;
     differing(alloc, g, s, p, f)
 }
 
 /// Whether the normal forms of two types are one.
+#[tactic(auto, using(crate::proofs::OwnForms::alike_own))]
 pub fn is_alike(alloc: Global, a: &Con, b: &Con) -> Result<bool, AllocError>
     ensures { IfOk result (λ r. r ≡ are_alike (con_tree a.now) (con_tree b.now)) }
 {
+    if is_one_form(a, b) {
+        return Ok(true);
+    }
     match both_forms(alloc, a, b)? {
         None => Ok(false),
         Some(f) => Ok(same_con(&f.left, &f.right)),
