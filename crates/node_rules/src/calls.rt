@@ -14,7 +14,7 @@ ghost use Rattle.type_faults.specs.View.{maybe_fault};
 use con_terms::{Con, Kind, Place};
 use core_terms::ConOrigin;
 use judgements::{
-    Globals, Here, Judged, flaw_at, has_kind, meets, normal_of, other_form, put, wants,
+    Globals, Here, Judged, flaw_at, has_kind, into_normal, meets, other_form, put, wants,
 };
 use kind_rules::Flaw;
 use std::alloc::{AllocError, Global};
@@ -136,7 +136,7 @@ fn past_term(
 {
     match fit {
         Fit::Off(f) => Ok(Fit::Off(f)),
-        Fit::On(t) => match normal_of(alloc, &t)? {
+        Fit::On(t) => match into_normal(alloc, t)? {
             None => Ok(Fit::Off(Some(Fault::TooLarge(p)))),
             Some(n) => past_function(alloc, g, s, p, q, n, c),
         },
@@ -237,7 +237,7 @@ fn past_con(
 {
     match fit {
         Fit::Off(f) => Ok(Fit::Off(f)),
-        Fit::On(t) => match normal_of(alloc, &t)? {
+        Fit::On(t) => match into_normal(alloc, t)? {
             None => Ok(Fit::Off(Some(Fault::TooLarge(p)))),
             Some(n) => past_body(alloc, g, s, p, q, o, c, n),
         },
@@ -292,7 +292,7 @@ fn past_guard(
 {
     match fit {
         Fit::Off(f) => Ok(Fit::Off(f)),
-        Fit::On(t) => match normal_of(alloc, &t)? {
+        Fit::On(t) => match into_normal(alloc, t)? {
             None => Ok(Fit::Off(Some(Fault::TooLarge(p)))),
             Some(n) => past_sides(alloc, g, s, p, q, n),
         },
