@@ -6,6 +6,8 @@ use Rattle.con_terms.specs.declared.con.Con.{Con}
 use Rattle.core_terms.specs.Trees.{Dt}
 use Rattle.core_terms.specs.View.{maybe_con}
 use Rattle.core_typing.specs.Scopes.{normal_of}
+use Rattle.judgements.proofs.OwnForms.{own_form}
+use Rattle.row_normal.specs.NormalForm.{IsNormal}
 use Rattle.carried_types.specs.Built.{type_by, normal_by, built}
 use Rattle.carried_types.specs.Pages.{left_of, left_behind}
 use Rattle.carried_types.proofs.BuiltMeans.{built_step}
@@ -18,6 +20,11 @@ built_nowhere room ds bs k t o h e n = built_step room ds bs k t h ∙ ap (type_
 pub built_within : (room : ℕ) (ds : List Dt) (bs : List Bool) (k : ℕ) (t : Cn) (o : Option Con) (n : Con) (r : Bool) → 0 < room → maybe_con o ≡ normal_of t → o ≡ Some n →
     normal_by (built (room - 1) ds bs k) ds bs k (con_tree n) ≡ Some r → built room ds bs k t ≡ Some r
 built_within room ds bs k t o n r h e s p = built_step room ds bs k t h ∙ ap (type_by (built (room - 1) ds bs k) ds bs k) (sym e ∙ ap maybe_con s) ∙ p
+
+-- a type that is its own normal form
+pub built_own : (room : ℕ) (ds : List Dt) (bs : List Bool) (k : ℕ) (t : Cn) (r : Bool) → 0 < room → IsNormal t →
+    normal_by (built (room - 1) ds bs k) ds bs k t ≡ Some r → built room ds bs k t ≡ Some r
+built_own room ds bs k t r h stays p = built_step room ds bs k t h ∙ ap (type_by (built (room - 1) ds bs k) ds bs k) (sym (own_form t stays)) ∙ p
 
 -- behind an argument
 left_after : (ds : List Dt) (bs : List Bool) (n i : ℕ) (t : Cn) → i < n → left_behind ds bs (n - i) t ≡ left_behind ds bs (suc (n - (i + 1))) t

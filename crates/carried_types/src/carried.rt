@@ -13,7 +13,7 @@ ghost use Rattle.carried_types.specs.View.{carriers_view};
 
 use con_terms::{Con, Cons, Kind, Pair, Pairs, Sym, same_kind};
 use core_terms::{Constructor, Constructors, Datatype};
-use judgements::normal_of;
+use judgements::{is_own_form, normal_of};
 use match_cover::{Seen, see};
 use std::alloc::{AllocError, Global};
 use type_makers::symbols;
@@ -64,9 +64,9 @@ fn is_carrier(datatypes: &Vec<Datatype>, carriers: &Carriers, s: Sym) -> bool
 }
 
 /// Whether a type is built of ints, strings, records and these datatypes, and of the parameters with the numbers below
-/// `parameters`.
+/// `parameters`. A type that is its own normal form isn't copied.
 #[cycle(is_built)]
-#[tactic(auto, using(crate::proofs::Loops::built_nowhere, crate::proofs::Loops::built_within))]
+#[tactic(auto, using(crate::proofs::Loops::built_nowhere, crate::proofs::Loops::built_own, crate::proofs::Loops::built_within))]
 fn is_built(
     alloc: Global,
     datatypes: &Vec<Datatype>,
@@ -84,6 +84,9 @@ fn is_built(
 {
     if room == 0 {
         return Err(AllocError);
+    }
+    if is_own_form(t) {
+        return is_built_normal(alloc, datatypes, carriers, parameters, t, room - 1);
     }
     match normal_of(alloc, t)? {
         None => Ok(false),
