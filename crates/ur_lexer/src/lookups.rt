@@ -23,7 +23,13 @@ fn stands(symbol: &[u8], bytes: &[u8]) -> bool
     ensures value { result ≡ spec.stands symbol.now bytes.now }
     ensures within { result ≡ true → (0 < length symbol.now) × (length symbol.now ≤ length bytes.now) }
 {
-    !symbol.is_empty() && bytes.starts_with(symbol)
+    match symbol {
+        [] => false,
+        [first, rest @ ..] => match bytes {
+            [] => false,
+            [byte, others @ ..] => *first == *byte && others.starts_with(rest),
+        },
+    }
 }
 
 /// The first symbol of the table that stands at the front of the bytes: its kind, its length and
