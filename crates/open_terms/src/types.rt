@@ -4,7 +4,7 @@ ghost use Rattle.std.specs.Prelude.{◌<◌};
 use crate::memory::maybe_on_heap;
 use crate::want::Want;
 use con_nodes::{MOST, left_beside, most_units};
-use con_terms::{Con, Kind, has_room, subst};
+use con_terms::{Con, Cons, Kind, Pair, Pairs, has_room, subst};
 use kind_rules::comparison_fuel;
 use row_normal::normal::normal;
 use row_normal::written::reduce;
@@ -93,11 +93,62 @@ pub fn boxed_normal(alloc: Global, c: &Con) -> Result<Option<Box<Con>>, AllocErr
     maybe_on_heap(alloc, normal_of(alloc, c)?)
 }
 
+/// Whether one walk tells that no step of reduction is left in a constructor: it has no function and no projection, and
+/// no map is applied in it.
+#[cycle(is_still)]
+fn is_still(c: &Con) -> bool {
+    match c {
+        Con::Var(_) | Con::Basic(_) | Con::UnitCon | Con::Name(_) | Con::Map(_, _) => true,
+        Con::Arrow(first, second) | Con::Cat(first, second) => is_still(first) && is_still(second),
+        Con::Poly(_, _, body) => is_still(body),
+        Con::Guarded(first, second, body) => {
+            is_still(first) && is_still(second) && is_still(body)
+        }
+        Con::Record(inner) => is_still(inner),
+        Con::App(first, second) => stays(first) && is_still(first) && is_still(second),
+        Con::Row(_, pairs) => are_still_pairs(pairs),
+        Con::Tuple(parts) => are_still(parts),
+        Con::Lambda(_, _) | Con::Proj(_, _) => false,
+    }
+}
+
+/// Whether a constructor stays where it is applied, if no step is left in it.
+fn stays(c: &Con) -> bool {
+    matches!(c, Con::Var(_) | Con::Basic(_) | Con::App(_, _))
+}
+
+/// The same for each of these constructors.
+#[cycle(is_still)]
+fn are_still(parts: &Cons) -> bool {
+    for i in 0..parts.items.len() {
+        if !is_still(&parts.items[i]) {
+            return false;
+        }
+    }
+    true
+}
+
+/// The same for the fields of a row.
+#[cycle(is_still)]
+fn are_still_pairs(pairs: &Pairs) -> bool {
+    for i in 0..pairs.items.len() {
+        if !is_still_pair(&pairs.items[i]) {
+            return false;
+        }
+    }
+    true
+}
+
+/// The same for a field.
+#[cycle(is_still)]
+fn is_still_pair(pair: &Pair) -> bool {
+    is_still(&pair.name) && is_still(&pair.value)
+}
+
 /// A type as it is shown and kept: reduced, or as it stands where that is too large.
 pub fn kept(alloc: Global, c: Con) -> Result<Con, AllocError> {
-    match &c {
-        Con::Basic(_) | Con::Var(_) => return Ok(c),
-        _ => {}
+    if is_still(&c) {
+        return Ok(c);
     }
     match reduced(alloc, &c)? {
         Some(less) => Ok(less),
