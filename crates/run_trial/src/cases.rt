@@ -1,6 +1,6 @@
 //! The cases in the order of their lines.
 use crate::calls::{Steps, ending};
-use crate::programs::{Built, Tried, built};
+use crate::programs::{Built, Tried, program_of};
 use crate::repeats::written_out;
 use std::alloc::{AllocError, Global};
 
@@ -130,7 +130,7 @@ impl Trial {
             return Ok(None);
         }
         self.part = Part::Cases;
-        match built(self.alloc, self.project.as_str(), self.module.as_str())? {
+        match program_of(self.alloc, self.project.as_str(), self.module.as_str())? {
             Built::Program(program) => {
                 self.program = Some(program);
                 Ok(None)

@@ -45,7 +45,7 @@ fn objects(alloc: Global) -> Result<Texts, AllocError> {
 }
 
 /// The program of a project file and a module, or the line that refuses it.
-pub fn built(alloc: Global, project: &str, module: &str) -> Result<Built, AllocError> {
+pub fn program_of(alloc: Global, project: &str, module: &str) -> Result<Built, AllocError> {
     let mut files = files(alloc, project, module)?;
     match build(alloc, &Inferred {}, &mut files, "p", &objects(alloc)?) {
         Ok(built) => Ok(Built::Program(Tried {
