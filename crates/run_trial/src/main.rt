@@ -1,5 +1,5 @@
-//! Tries the walker on written cases: it reads programs and calls of them from standard input, and tells each that comes
-//! out otherwise, and how many there are.
+//! Tries the walker on written cases: it reads programs and calls of them from standard input, and tells each that
+//! comes out otherwise, and how many there are.
 //!
 //! A program begins with the line `project`. The directives of its project file follow, then an empty line, then its
 //! one module, and the line `end`. Behind it stand calls of it, each with a line that says what comes of it.
@@ -10,7 +10,8 @@
 //!
 //! `= STEPS PAGE` says that a run takes so many steps, one step less is over the budget, and the page has this text
 //! within `html`; its effects follow, each behind ` | `. `! STEPS FAULT` says the same of a fault. `? WHY` says that
-//! there is nothing to run. Once in such a line `«COUNT PIECE»` stands for a piece so many times. Other lines are remarks.
+//! there is nothing to run. Once in such a line `«COUNT PIECE»` stands for a piece so many times. Other lines are
+//! remarks.
 #![tactic(auto)]
 
 mod calls;
